@@ -1,0 +1,1 @@
+// The logic: what decks, runs, cones, pieces and verdicts are. There is no code here.

@@ -1,0 +1,1 @@
+// Sets of variables as u64 words.
