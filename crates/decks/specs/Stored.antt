@@ -4,8 +4,14 @@ use Prim.Native.Nat.{ℕ, _+_}
 use lib.ListN.{length, replicate}
 use Rattle.lists.specs.Lists.{padded}
 use Rattle.logic.specs.Expressions.{Expr, nodes, code}
-use Rattle.logic.specs.Decks.{Equation, Deck, base}
+use Rattle.logic.specs.Decks.{Equation, Deck, Limits, base}
+use Rattle.logic.specs.Meaning.{Claim}
 use Rattle.decks.specs.declared.Deck.{Deck as Stored}
+use Rattle.decks.specs.declared.DeckRead.{DeckRead}
+use Rattle.decks.specs.declared.ClaimRead.{ClaimRead}
+use Rattle.decks.specs.declared.Sizes.{Sizes}
+use Rattle.decks.specs.declared.Answer.the-variants.{Fine}
+use Rattle.decks.specs.Answers.{Outcome, Got, Refused}
 
 -- The variables on the left sides.
 abbrev pub leftsOf : List Equation → List ℕ
@@ -49,4 +55,28 @@ blank =
       nodes = replicate (base .equationNodes) 0;
       property = replicate (base .propertyNodes) 0;
       size = 0;
+    }
+
+-- What a reader of decks returns.
+abbrev pub deckRead : Outcome Deck → DeckRead
+deckRead (Got d) = record { answer = Fine; deck = stored d }
+deckRead (Refused a) = record { answer = a; deck = blank }
+
+-- What a reader of claims returns.
+abbrev pub claimRead : Outcome Claim → ClaimRead
+claimRead (Got m) = record { answer = Fine; p = m .p; c = m .c; states = padded (base .states) (m .states) }
+claimRead (Refused a) = record { answer = a; p = 0; c = 0; states = replicate (base .states) 0 }
+
+-- The limits as the code has them.
+abbrev pub sizesOf : Limits → Sizes
+sizesOf L =
+    record {
+      text = L .text;
+      variables = L .variables;
+      initials = L .initials;
+      equations = L .equations;
+      equationNodes = L .equationNodes;
+      propertyNodes = L .propertyNodes;
+      levels = L .levels;
+      states = L .states;
     }

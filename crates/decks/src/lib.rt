@@ -4,7 +4,7 @@ ghost use Prim.Native.Nat.{ℕ, _+_, _*_, _<_, _≤_};
 ghost use lib.ListN.{length, take, drop, getD, set, replicate};
 ghost use Rattle.logic.specs.Decks.{Limits, base};
 ghost use Rattle.decks.specs.Answers.{replyOf};
-ghost use Rattle.decks.specs.Stored.{blank};
+ghost use Rattle.decks.specs.Stored.{blank, sizesOf};
 
 // Document 01's sizes.
 pub const TEXT: usize = 64800;
@@ -70,6 +70,64 @@ pub struct Reply {
     pub number: u64,
     pub text: u64,
     pub place: u64,
+}
+
+// What a reader of decks comes to: the deck, or a refusal and the deck of zeros.
+pub struct DeckRead {
+    pub answer: Answer,
+    pub deck: Deck,
+}
+
+// What a reader of claims comes to: p, c and the states with zeros behind them, or a refusal and zeros.
+pub struct ClaimRead {
+    pub answer: Answer,
+    pub p: usize,
+    pub c: usize,
+    pub states: [u64; STATES * WORDS],
+}
+
+// The limits, as the logic has them.
+pub struct Sizes {
+    pub text: usize,
+    pub variables: usize,
+    pub initials: usize,
+    pub equations: usize,
+    pub equationNodes: usize,
+    pub propertyNodes: usize,
+    pub levels: usize,
+    pub states: usize,
+}
+
+// The named limits above are those of the logic.
+pub fn limits() -> Sizes
+    ensures { λ r. ⌜ r ≡ sizesOf base ⌝ }
+{
+    Sizes {
+        text: TEXT,
+        variables: VARIABLES,
+        initials: INITIALS,
+        equations: EQUATIONS,
+        equationNodes: EQUATION_NODES,
+        propertyNodes: PROPERTY_NODES,
+        levels: LEVELS,
+        states: STATES,
+    }
+}
+
+// State i of a row of states.
+pub fn state_at(states: &[u64], i: usize) -> u64
+    requires { ⌜ i < length (now states) ⌝ }
+    ensures { λ r. ⌜ r ≡ getD (now (states .entry)) i 0 ⌝ }
+{
+    states[i]
+}
+
+// A state stored at place i of a row of states.
+pub fn put_state(states: &mut [u64], i: usize, s: u64)
+    requires { ⌜ i < length (now states) ⌝ }
+    ensures { λ _. ⌜ now (states .exit) ≡ set (now (states .entry)) i s ⌝ }
+{
+    states[i] = s;
 }
 
 // The paper's number, text and place of an answer.
