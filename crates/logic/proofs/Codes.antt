@@ -46,9 +46,10 @@ unfolding written
 written-below w s (Const b) h f = tt
 written-below w s (Var v) h f = member-below w s v h (f v (bit-only v))
 written-below w s (One o e) h f = written-below w s e h f
-written-below w s (Two o a b) h f =
-    (written-below w s a h (subset-trans _ _ _ (union-left (written a) (written b)) f),
-      written-below w s b h (subset-trans _ _ _ (union-right (written a) (written b)) f))
+written-below w s (Two o a b) h f = (
+  written-below w s a h (subset-trans _ _ _ (union-left (written a) (written b)) f),
+  written-below w s b h (subset-trans _ _ _ (union-right (written a) (written b)) f),
+)
 
 -- ---- what a node is
 
@@ -96,39 +97,39 @@ head-two Weak = refl
 same-head : {c d : ℕ} {l m : List ℕ} {h k : Head} → headOf c ≡ h → headOf d ≡ k → c ∷ l ≡ d ∷ m → h ≡ k
 same-head p q e = sym p ∙ ap headOf (head-eq-of-cons-eq e) ∙ q
 
+-- A number for each kind of node.
+abbrev kind : Head → ℕ
+kind (Leaf e) = 0
+kind (Place1 o) = 1
+kind (Place2 o) = 2
+
+apart : {A : Type 0} {h k : Head} → h ≡ k → (kind h ≡ kind k → ⊥) → A
+apart e f = absurd (f (ap kind e))
+
 leaf-eq : {a b : Expr} → Leaf a ≡ Leaf b → a ≡ b
 leaf-eq e = cc
-
-not-one : {A : Type 0} {a : Expr} {o : Op1} → Leaf a ≡ Place1 o → A
-not-one e = absurd (let z : _≡_ {A = ℕ} 0 1 = cc in omega arith)
-
-not-two : {A : Type 0} {a : Expr} {o : Op2} → Leaf a ≡ Place2 o → A
-not-two e = absurd (let z : _≡_ {A = ℕ} 0 1 = cc in omega arith)
-
-one-not-two : {A : Type 0} {o : Op1} {p : Op2} → Place1 o ≡ Place2 p → A
-one-not-two e = absurd (let z : _≡_ {A = ℕ} 0 1 = cc in omega arith)
 
 -- A prefix code followed by anything is read back in one way only.
 pub code-unique : (a b : Expr) (x y : List ℕ) → Narrow a → Narrow b → code a ++ x ≡ code b ++ y → (a ≡ b) × (x ≡ y)
 unfolding code
 code-unique (Const b) (Const c) x y n m e = (leaf-eq (same-head (head-const b) (head-const c) e), tail-eq-of-cons-eq e)
 code-unique (Const b) (Var w) x y n m e = (leaf-eq (same-head (head-const b) (head-var w m) e), tail-eq-of-cons-eq e)
-code-unique (Const b) (One p c) x y n m e = not-one (same-head (head-const b) (head-one p) e)
-code-unique (Const b) (Two p c d) x y n m e = not-two (same-head (head-const b) (head-two p) e)
+code-unique (Const b) (One p c) x y n m e = apart (same-head (head-const b) (head-one p) e) (λ z. omega arith)
+code-unique (Const b) (Two p c d) x y n m e = apart (same-head (head-const b) (head-two p) e) (λ z. omega arith)
 code-unique (Var v) (Const c) x y n m e = (leaf-eq (same-head (head-var v n) (head-const c) e), tail-eq-of-cons-eq e)
 code-unique (Var v) (Var w) x y n m e = (leaf-eq (same-head (head-var v n) (head-var w m) e), tail-eq-of-cons-eq e)
-code-unique (Var v) (One p c) x y n m e = not-one (same-head (head-var v n) (head-one p) e)
-code-unique (Var v) (Two p c d) x y n m e = not-two (same-head (head-var v n) (head-two p) e)
-code-unique (One o a) (Const c) x y n m e = not-one (sym (same-head (head-one o) (head-const c) e))
-code-unique (One o a) (Var w) x y n m e = not-one (sym (same-head (head-one o) (head-var w m) e))
+code-unique (Var v) (One p c) x y n m e = apart (same-head (head-var v n) (head-one p) e) (λ z. omega arith)
+code-unique (Var v) (Two p c d) x y n m e = apart (same-head (head-var v n) (head-two p) e) (λ z. omega arith)
+code-unique (One o a) (Const c) x y n m e = apart (same-head (head-one o) (head-const c) e) (λ z. omega arith)
+code-unique (One o a) (Var w) x y n m e = apart (same-head (head-one o) (head-var w m) e) (λ z. omega arith)
 code-unique (One o a) (One p c) x y n m e = go (same-head (head-one o) (head-one p) e) (code-unique a c x y n m (tail-eq-of-cons-eq e))
   where
     go : Place1 o ≡ Place1 p → (a ≡ c) × (x ≡ y) → (One o a ≡ One p c) × (x ≡ y)
     go h r = let q : a ≡ c = r .0 in (cc, r .1)
-code-unique (One o a) (Two p c d) x y n m e = one-not-two (same-head (head-one o) (head-two p) e)
-code-unique (Two o a b) (Const c) x y n m e = not-two (sym (same-head (head-two o) (head-const c) e))
-code-unique (Two o a b) (Var w) x y n m e = not-two (sym (same-head (head-two o) (head-var w m) e))
-code-unique (Two o a b) (One p c) x y n m e = one-not-two (sym (same-head (head-two o) (head-one p) e))
+code-unique (One o a) (Two p c d) x y n m e = apart (same-head (head-one o) (head-two p) e) (λ z. omega arith)
+code-unique (Two o a b) (Const c) x y n m e = apart (same-head (head-two o) (head-const c) e) (λ z. omega arith)
+code-unique (Two o a b) (Var w) x y n m e = apart (same-head (head-two o) (head-var w m) e) (λ z. omega arith)
+code-unique (Two o a b) (One p c) x y n m e = apart (same-head (head-two o) (head-one p) e) (λ z. omega arith)
 code-unique (Two o a b) (Two p c d) x y n m e =
     go
     (same-head (head-two o) (head-two p) e)
@@ -193,7 +194,7 @@ two-fits Until = omega arith
 two-fits Weak = omega arith
 
 -- general:
-each-append : {A : Type 0} (P : A → Type 0) (s t : List A) → Each P s → Each P t → Each P (s ++ t)
+pub each-append : {A : Type 0} (P : A → Type 0) (s t : List A) → Each P s → Each P t → Each P (s ++ t)
 each-append P [] t p q = q
 each-append P (x ∷ xs) t p q = (p .0, each-append P xs t (p .1) q)
 
