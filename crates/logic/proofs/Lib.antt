@@ -1,3 +1,5 @@
 pub mod Cases
+pub mod Codes
 pub mod Operators
+pub mod Spelling
 pub mod Truth
