@@ -1,4 +1,5 @@
 -- The value in memory that a deck of the logic has: every byte of it.
+use mathlib.Core.Path.{_≡_}
 use mathlib.Core.List.{List, [], _∷_, _++_, map}
 use Prim.Native.Nat.{ℕ, _+_}
 use lib.ListN.{length, replicate}
@@ -26,6 +27,13 @@ endsOf n (q ∷ qs) = (n + nodes (q .right)) ∷ endsOf (n + nodes (q .right)) q
 unfoldable pub codes : List Equation → List ℕ
 codes [] = []
 codes (q ∷ qs) = code (q .right) ++ codes qs
+
+-- The arrays and the count hold these equations.
+pub record HoldsEquations (qs : List Equation) (lefts ends nodes : List ℕ) (n : ℕ) : Type 0 where
+  pub lefts-are : lefts ≡ padded (base .equations) (leftsOf qs)
+  pub ends-are : ends ≡ padded (base .equations) (endsOf 0 qs)
+  pub nodes-are : nodes ≡ padded (base .equationNodes) (codes qs)
+  pub count-is : n ≡ length qs
 
 -- What is used of each array stands from its first place on, zeros behind it.
 abbrev pub stored : Deck → Stored
