@@ -1,3 +1,4 @@
 pub mod Cases
 pub mod Operators
 pub mod Truth
+pub mod Verdict
