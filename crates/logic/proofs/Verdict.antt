@@ -229,7 +229,7 @@ each-getD P z (x ∷ xs) ps (suc i) = each-getD P z xs (ps .1) i
 -- ---- the steps, worked out
 
 -- The variables taken are those with an equation that gives the value.
-taken-is : (qs : List Equation) (s t v : ℕ) → taken qs s t ∋ v ↔ Some (λ (q : Equation). (q .left ≡ v) × (value s (q .right) ≡ bit t v)) qs
+pub taken-is : (qs : List Equation) (s t v : ℕ) → taken qs s t ∋ v ↔ Some (λ (q : Equation). (q .left ≡ v) × (value s (q .right) ≡ bit t v)) qs
 unfolding taken
 taken-is [] s t v = (λ h. omega (arith, bit-zero v), λ h. absurd h)
 taken-is (q ∷ qs) s t v = go (eqb (value s (q .right)) (bit t (q .left))) refl (taken-is qs s t v)
