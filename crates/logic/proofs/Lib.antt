@@ -1,4 +1,6 @@
 pub mod Cases
+pub mod Codes
 pub mod Operators
+pub mod Spelling
 pub mod Truth
 pub mod Verdict

@@ -46,14 +46,27 @@ written (Two o a b) = union (written a) (written b)
 unfoldable pub Plain : Expr → Type 0
 Plain (Const b) = Unit
 Plain (Var v) = Unit
-Plain (One Not e) = Plain e
-Plain (One Next e) = ⊥
-Plain (One Future e) = ⊥
-Plain (One Always e) = ⊥
+Plain (One Not a) = Plain a
+Plain (One Next a) = ⊥
+Plain (One Future a) = ⊥
+Plain (One Always a) = ⊥
 Plain (Two And a b) = Plain a × Plain b
 Plain (Two Or a b) = Plain a × Plain b
 Plain (Two Until a b) = ⊥
 Plain (Two Weak a b) = ⊥
+
+-- Whether one of `X F G U W` is there.
+unfoldable pub temporal : Expr → Bool
+temporal (Const b) = false
+temporal (Var v) = false
+temporal (One Not a) = temporal a
+temporal (One Next a) = true
+temporal (One Future a) = true
+temporal (One Always a) = true
+temporal (Two And a b) = elim (temporal a) [ true ↦ true | false ↦ temporal b ]
+temporal (Two Or a b) = elim (temporal a) [ true ↦ true | false ↦ temporal b ]
+temporal (Two Until a b) = true
+temporal (Two Weak a b) = true
 
 -- The digit of a constant.
 abbrev pub digit : Bool → ℕ
@@ -64,10 +77,10 @@ digit true = 1
 unfoldable pub value : ℕ → Expr → ℕ
 value s (Const b) = digit b
 value s (Var v) = bit s v
-value s (One Not e) = 1 - value s e
-value s (One Next e) = 0
-value s (One Future e) = 0
-value s (One Always e) = 0
+value s (One Not a) = 1 - value s a
+value s (One Next a) = 0
+value s (One Future a) = 0
+value s (One Always a) = 0
 value s (Two And a b) = min (value s a) (value s b)
 value s (Two Or a b) = max (value s a) (value s b)
 value s (Two Until a b) = 0

@@ -1,0 +1,90 @@
+-- The value in memory that a deck of the logic has: every byte of it.
+use mathlib.Core.Path.{_≡_}
+use mathlib.Core.List.{List, [], _∷_, _++_, map}
+use Prim.Native.Nat.{ℕ, _+_}
+use lib.ListN.{length, replicate}
+use Rattle.lists.specs.Lists.{padded}
+use Rattle.logic.specs.Expressions.{Expr, nodes, code}
+use Rattle.logic.specs.Decks.{Equation, Deck, Limits, base}
+use Rattle.logic.specs.Meaning.{Claim}
+use Rattle.decks.specs.declared.Deck.{Deck as Stored}
+use Rattle.decks.specs.declared.DeckRead.{DeckRead}
+use Rattle.decks.specs.declared.ClaimRead.{ClaimRead}
+use Rattle.decks.specs.declared.Sizes.{Sizes}
+use Rattle.decks.specs.declared.Answer.the-variants.{Fine}
+use Rattle.decks.specs.Answers.{Outcome, Got, Refused}
+
+-- The variables on the left sides.
+abbrev pub leftsOf : List Equation → List ℕ
+leftsOf qs = map (λ (q : Equation). q .left) qs
+
+-- Where each equation's nodes end, counted from n.
+unfoldable pub endsOf : ℕ → List Equation → List ℕ
+endsOf n [] = []
+endsOf n (q ∷ qs) = (n + nodes (q .right)) ∷ endsOf (n + nodes (q .right)) qs
+
+-- The nodes of all right sides, one behind the other.
+unfoldable pub codes : List Equation → List ℕ
+codes [] = []
+codes (q ∷ qs) = code (q .right) ++ codes qs
+
+-- The arrays and the count hold these equations.
+pub record HoldsEquations (qs : List Equation) (lefts ends nodes : List ℕ) (n : ℕ) : Type 0 where
+  pub lefts-are : lefts ≡ padded (base .equations) (leftsOf qs)
+  pub ends-are : ends ≡ padded (base .equations) (endsOf 0 qs)
+  pub nodes-are : nodes ≡ padded (base .equationNodes) (codes qs)
+  pub count-is : n ≡ length qs
+
+-- What is used of each array stands from its first place on, zeros behind it.
+abbrev pub stored : Deck → Stored
+stored d =
+    record {
+      vars = d .vars;
+      inits = padded (base .initials) (d .inits);
+      initials = length (d .inits);
+      lefts = padded (base .equations) (leftsOf (d .equations));
+      ends = padded (base .equations) (endsOf 0 (d .equations));
+      equations = length (d .equations);
+      nodes = padded (base .equationNodes) (codes (d .equations));
+      property = padded (base .propertyNodes) (code (d .property));
+      size = nodes (d .property);
+    }
+
+-- The deck of zeros: what is returned with a refusal.
+abbrev pub blank : Stored
+blank =
+    record {
+      vars = 0;
+      inits = replicate (base .initials) 0;
+      initials = 0;
+      lefts = replicate (base .equations) 0;
+      ends = replicate (base .equations) 0;
+      equations = 0;
+      nodes = replicate (base .equationNodes) 0;
+      property = replicate (base .propertyNodes) 0;
+      size = 0;
+    }
+
+-- What a reader of decks returns.
+abbrev pub deckRead : Outcome Deck → DeckRead
+deckRead (Got d) = record { answer = Fine; deck = stored d }
+deckRead (Refused a) = record { answer = a; deck = blank }
+
+-- What a reader of claims returns.
+abbrev pub claimRead : Outcome Claim → ClaimRead
+claimRead (Got m) = record { answer = Fine; p = m .p; c = m .c; states = padded (base .states) (m .states) }
+claimRead (Refused a) = record { answer = a; p = 0; c = 0; states = replicate (base .states) 0 }
+
+-- The limits as the code has them.
+abbrev pub sizesOf : Limits → Sizes
+sizesOf L =
+    record {
+      text = L .text;
+      variables = L .variables;
+      initials = L .initials;
+      equations = L .equations;
+      equationNodes = L .equationNodes;
+      propertyNodes = L .propertyNodes;
+      levels = L .levels;
+      states = L .states;
+    }

@@ -1,0 +1,1 @@
+// Frames: decks and claims, read and written.
