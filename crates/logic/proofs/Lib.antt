@@ -3,3 +3,4 @@ pub mod Codes
 pub mod Operators
 pub mod Spelling
 pub mod Truth
+pub mod Verdict
