@@ -1,5 +1,6 @@
 pub mod Cases
 pub mod Codes
+pub mod Cone
 pub mod Operators
 pub mod Spelling
 pub mod Truth
