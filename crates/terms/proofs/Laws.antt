@@ -1,4 +1,4 @@
--- What the passes over nodes give where the nodes are the code of an expression, and how a pass goes on by one node.
+-- How a pass over nodes begins, goes on by one node, and ends.
 use mathlib.Core.Path.{_≡_, refl, sym, ap, ap₂, _∙_, subst}
 use mathlib.Core.Bool.{Bool, true, false, not}
 use mathlib.Core.List.{List, [], _∷_, _++_, append-assoc, append-nil, head-eq-of-cons-eq, tail-eq-of-cons-eq}
@@ -20,7 +20,7 @@ use Rattle.logic.proofs.Codes.{Below, Narrow, below-more, length-code}
 use Rattle.terms.specs.Nodes.{constant?, placesOf, temporal?, spans, part, variableOf, variablesOf, someTemporal, plain?, Stands}
 
 -- general:
-union-assoc : (s t u : ℕ) → union s (union t u) ≡ union (union s t) u
+pub union-assoc : (s t u : ℕ) → union s (union t u) ≡ union (union s t) u
 union-assoc s t u =
     ext
     (union s (union t u))
@@ -28,29 +28,6 @@ union-assoc s t u =
     (λ i. omega (arith, bit-union s (union t u) i, bit-union t u i, bit-union (union s t) u i, bit-union s t i))
 
 -- ---- how many operands a node has
-
-places-const : (b : Bool) → placesOf (constNode b) ≡ 0
-unfolding placesOf
-places-const false = refl
-places-const true = refl
-
-places-var : (v : ℕ) → v < 256 → placesOf v ≡ 0
-unfolding placesOf
-places-var v h = let l : v < 258 = omega arith in simp (lt-ltb v 258 l, placesOf)
-
-places-one : (o : Op1) → placesOf (node1 o) ≡ 1
-unfolding placesOf
-places-one Not = refl
-places-one Next = refl
-places-one Future = refl
-places-one Always = refl
-
-places-two : (o : Op2) → placesOf (node2 o) ≡ 2
-unfolding placesOf
-places-two And = refl
-places-two Or = refl
-places-two Until = refl
-places-two Weak = refl
 
 places-most : (c : ℕ) → placesOf c ≤ 2
 unfolding placesOf
@@ -77,15 +54,6 @@ pub spans-nil : (n : ℕ) → spans n [] ≡ 0
 unfolding spans
 spans-nil n = refl
 
-pub spans-code : (e : Expr) (n : ℕ) (rest : List ℕ) → Narrow e → spans (suc n) (code e ++ rest) ≡ nodes e + spans n rest
-unfolding spans code nodes
-spans-code (Const b) n rest h = let z : n + placesOf (constNode b) ≡ n = omega (arith, places-const b) in rw z (omega arith)
-spans-code (Var v) n rest h = let z : n + placesOf v ≡ n = omega (arith, places-var v h) in rw z (omega arith)
-spans-code (One o e) n rest h = let z : n + placesOf (node1 o) ≡ suc n = omega (arith, places-one o) in rw z (omega (arith, spans-code e n rest h))
-spans-code (Two o a b) n rest h =
-    let z : n + placesOf (node2 o) ≡ suc (suc n) = omega (arith, places-two o) in
-    rw (z, append-assoc (code a) (code b) rest) (omega (arith, spans-code a (suc n) (code b ++ rest) (h .0), spans-code b n rest (h .1)))
-
 module _ (cs : List ℕ) (i : ℕ) where
   pub next-node : i < length cs → drop i cs ≡ getD cs i 0 ∷ drop (i + 1) cs
   next-node h = drop-cons cs i 0 h ∙ ap (λ (n : ℕ). getD cs i 0 ∷ drop n cs) (sym (add-one i))
@@ -105,11 +73,6 @@ module _ (cs : List ℕ) (i : ℕ) where
     end-on p e h z q =
         let m : pending ≡ suc (pending - 1) = omega arith in
         e ∙ ap₂ (λ (n : ℕ) (l : List ℕ). i + spans n l) m (next-node h) ∙ rw (← q) (omega arith)
-
--- ---- expressions that stand in the nodes
-
-pub stands-end : (cs : List ℕ) (i : ℕ) (e : Expr) → Stands cs i e → i + spans 1 (drop i cs) ≡ i + nodes e
-stands-end cs i e s = rw (s .1 .1) (omega (arith, spans-code e 0 (s .1 .0) (s .0), spans-none (s .1 .0)))
 
 -- ---- tests of a node
 
@@ -165,11 +128,6 @@ variable-low c h = shl-exact 1 c 64 (lit< tt) (omega arith) ∙ one-mul _ ∙ si
 pub variable-high : (c : ℕ) → 64 ≤ c → 0 ≡ variableOf c
 unfolding variableOf
 variable-high c h = simp (le-ltb c 64 h, variableOf)
-
-pub variables-append : (s t : List ℕ) → variablesOf (s ++ t) ≡ union (variablesOf s) (variablesOf t)
-unfolding variablesOf
-variables-append [] t = sym (or-zero-l (variablesOf t))
-variables-append (c ∷ cs) t = ap (union (variableOf c)) (variables-append cs t) ∙ union-assoc (variableOf c) (variablesOf cs) (variablesOf t)
 
 module _ (cs : List ℕ) (i j all set : ℕ) where
   pub written-start : variablesOf cs ≡ union 0 (variablesOf cs)

@@ -1,6 +1,6 @@
 -- Expressions in memory: nodes in prefix order, in a list that may go on behind them.
 use mathlib.Core.Path.{_≡_}
-use mathlib.Core.Bool.{Bool, true, false}
+use mathlib.Core.Bool.{Bool, true, false, _&&_, _||_}
 use mathlib.Core.List.{List, [], _∷_, _++_}
 use Prim.Native.Nat.{ℕ, zero, suc, _+_, _-_, _<_, _≤_}
 use lib.Dec.{ltb, leb, eqb}
@@ -52,7 +52,7 @@ variablesOf (c ∷ cs) = union (variableOf c) (variablesOf cs)
 -- Whether one of `X F G U W` is among the nodes.
 unfoldable pub someTemporal : List ℕ → Bool
 someTemporal [] = false
-someTemporal (c ∷ cs) = elim (temporal? c) [ true ↦ true | false ↦ someTemporal cs ]
+someTemporal (c ∷ cs) = temporal? c || someTemporal cs
 
 -- Whether of the operators only `~ & +` are used.
 unfoldable pub plain? : Expr → Bool
@@ -62,8 +62,8 @@ plain? (One Not e) = plain? e
 plain? (One Next e) = false
 plain? (One Future e) = false
 plain? (One Always e) = false
-plain? (Two And a b) = elim (plain? a) [ true ↦ plain? b | false ↦ false ]
-plain? (Two Or a b) = elim (plain? a) [ true ↦ plain? b | false ↦ false ]
+plain? (Two And a b) = plain? a && plain? b
+plain? (Two Or a b) = plain? a && plain? b
 plain? (Two Until a b) = false
 plain? (Two Weak a b) = false
 
