@@ -18,23 +18,23 @@ use Rattle.terms.proofs.Laws.{union-assoc, places-leaf, spans-none, var
 
 -- ---- how many operands a node has
 
-places-const : (b : Bool) → placesOf (constNode b) ≡ 0
+pub places-const : (b : Bool) → placesOf (constNode b) ≡ 0
 unfolding placesOf
 places-const false = refl
 places-const true = refl
 
-places-var : (v : ℕ) → v < 256 → placesOf v ≡ 0
+pub places-var : (v : ℕ) → v < 256 → placesOf v ≡ 0
 unfolding placesOf
 places-var v h = let l : v < 258 = omega arith in simp (lt-ltb v 258 l, placesOf)
 
-places-one : (o : Op1) → placesOf (node1 o) ≡ 1
+pub places-one : (o : Op1) → placesOf (node1 o) ≡ 1
 unfolding placesOf
 places-one Not = refl
 places-one Next = refl
 places-one Future = refl
 places-one Always = refl
 
-places-two : (o : Op2) → placesOf (node2 o) ≡ 2
+pub places-two : (o : Op2) → placesOf (node2 o) ≡ 2
 unfolding placesOf
 places-two And = refl
 places-two Or = refl

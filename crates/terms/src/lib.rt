@@ -3,8 +3,9 @@ ghost use mathlib.Core.Path.{_≡_};
 ghost use Prim.Native.Nat.{ℕ, _+_, _-_, _<_, _≤_, max};
 ghost use lib.Dec.{eqb};
 ghost use lib.ListN.{length, drop};
-ghost use Rattle.logic.specs.Expressions.{Expr, nodes as count, levels as depth};
+ghost use Rattle.logic.specs.Expressions.{Expr, levels as depth};
 ghost use Rattle.terms.specs.Nodes.{variable?, constant?, placesOf, temporal?, spans, part, variableOf, variablesOf, someTemporal, Stands};
+ghost use Rattle.terms.specs.Reaches.{Reaches};
 
 // A node below this number is the variable of that number.
 pub const VARIABLES_END: u16 = 256;
@@ -154,4 +155,56 @@ pub fn has_temporal(nodes: &[u16], at: usize, end: usize) -> bool
         i += 1;
     }
     false
+}
+
+fn larger(a: usize, b: usize) -> usize
+    ensures { λ r. ⌜ r ≡ max a b ⌝ }
+{
+    if a < b {
+        return b;
+    }
+    a
+}
+
+// Where an expression ends, and its deepest level.
+pub struct Reach {
+    pub end: usize,
+    pub levels: usize,
+}
+
+// The reach of the expression that begins at `at`.
+pub fn reach_of(nodes: &[u16], at: usize) -> Reach
+    ensures { λ r. ⌜ Reaches (now (nodes .entry)) at r ⌝ }
+{
+    if nodes.len() <= at {
+        return Reach { end: at, levels: 0 };
+    }
+    let operands = places(nodes[at]);
+    if operands == 0 {
+        return Reach {
+            end: at + 1,
+            levels: 1,
+        };
+    }
+    let a = reach_of(nodes, at + 1);
+    if operands == 1 {
+        return Reach {
+            end: a.end,
+            levels: a.levels + 1,
+        };
+    }
+    let b = reach_of(nodes, a.end);
+    let most = larger(a.levels, b.levels);
+    Reach {
+        end: b.end,
+        levels: most + 1,
+    }
+}
+
+// The deepest level of the expression that begins at `at`.
+pub fn levels_of(nodes: &[u16], at: usize) -> usize
+    ensures { λ r. ⌜ ((e : Expr) → Stands (now (nodes .entry)) at e → r ≡ depth e) ⌝ }
+{
+    let r = reach_of(nodes, at);
+    r.levels
 }
