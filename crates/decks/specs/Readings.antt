@@ -3,10 +3,9 @@ use mathlib.Core.Bool.{Bool, true, false, not}
 use mathlib.Core.List.{List, [], _∷_}
 use Prim.Native.Nat.{ℕ, suc}
 use lib.Dec.{eqb}
-use lib.Count.{trailingZeros}
-use Rattle.sets.specs.Sets.{union, only, without}
+use Rattle.sets.specs.Sets.{union, only, without, lowestOf}
 use Rattle.logic.specs.Expressions.{Expr}
-use Rattle.logic.specs.Decks.{Equation, Deck, base}
+use Rattle.logic.specs.Decks.{Equation, Deck}
 use Rattle.decks.specs.declared.Answer.the-variants.{NoEquation}
 use Rattle.decks.specs.Answers.{Outcome, Got, Refused, refuse}
 
@@ -36,4 +35,4 @@ leftSet (q ∷ qs) = union (only (q .left)) (leftSet qs)
 unfoldable pub complete : Deck → Outcome Deck
 complete d =
     let missing : ℕ = without (d .vars) (leftSet (d .equations)) in
-    refuse (not (eqb missing 0)) (NoEquation (trailingZeros (base .variables) missing)) (Got d)
+    refuse (not (eqb missing 0)) (NoEquation (lowestOf missing)) (Got d)
