@@ -202,9 +202,6 @@ without-in s t i h n = omega (arith, bit-without s t i, h, not-in t i n)
 
 -- ---- subset as a test, and subset as order
 
-pub meet-le : (s t m : ℕ) → m ≡ meet s t → m ≤ s
-meet-le s t m e = omega (arith, and-le-l s t)
-
 pub subset-meet : (s t : ℕ) → s ⊆ t → meet s t ≡ s
 subset-meet s t f = subset-antisym (meet s t) s (meet-left s t) (meet-most s t s (subset-refl s) f)
 
@@ -231,9 +228,6 @@ inside-false s t n = ne-eqb (meet s t) s (λ e. n (meet-subset s t e))
 
 pub false-inside : (s t : ℕ) → inside s t ≡ false → s ⊆ t → ⊥
 false-inside s t e f = eqb-false (meet s t) s e (subset-meet s t f)
-
-pub meet-inside : (s t m : ℕ) → m ≡ meet s t → eqb m s ≡ inside s t
-meet-inside s t m e = ap (λ (x : ℕ). eqb x s) e
 
 pub subset-dec : (s t : ℕ) → Dec (s ⊆ t)
 subset-dec s t = by-cases (ℕ-discrete (meet s t) s) (λ e. yes (meet-subset s t e)) (λ n. no (λ f. n (subset-meet s t f)))
