@@ -12,7 +12,7 @@ use borrow.Author.Tests.{eq-eqb, ne-eqb, eqb-true, eqb-false}
 use Rattle.lists.specs.Lists.{Each, Some, _among_, keep}
 use Rattle.lists.proofs.Laws.{each-at, each-map, some-find, find-some, some-of-map, map-some, keep-pass, keep-fail}
 use Rattle.sets.specs.Sets.{bit, _∋_, _⊆_, has, only, union, meet}
-use Rattle.sets.proofs.Laws.{bit-lt, bit-zero, bit-union, bit-meet, bit-only, only-bit, not-in, member-dec, has-true, has-false, subset-trans, union-left, union-right, union-least, meet-right}
+use Rattle.sets.proofs.Laws.{subset-le, bit-meet-in, bit-zero, bit-union, bit-only, only-bit, not-in, member-dec, has-true, has-false, subset-trans, union-left, union-right, union-least, meet-right}
 use Rattle.logic.specs.Expressions.{Expr, Const, Var, One, Two, Not, Next, Future, Always, And, Or, Until, Weak, written, value}
 use Rattle.logic.specs.Decks.{Equation, Deck, Limits, Allowed, Accepted}
 use Rattle.logic.specs.Meaning.{Run, Holds, Takes, Step, RunOf, Loops, Breaks, Broken}
@@ -21,7 +21,7 @@ use Rattle.logic.specs.Pieces.{split, coneOf, equationsOf, piece, pieces
 use Rattle.logic.proofs.Truth.{only-written, holds-dec, some-below}
 use Rattle.logic.proofs.Operators.{value-lt}
 use Rattle.logic.proofs.Cone.{Carried, equationsFor, cone-is, cone-closed, cone-in}
-use Rattle.logic.proofs.Pieces.{subset-le, split-and, split-parts, PartOf, piece-least, equations-kept, kept-equations, among-projected, projected-among}
+use Rattle.logic.proofs.Pieces.{split-and, split-parts, PartOf, piece-least, equations-kept, kept-equations, among-projected, projected-among}
 
 -- ---- values
 
@@ -46,11 +46,6 @@ cone-value : (d : Deck) (e : Expr) (q : Equation) (s t : ℕ)
     → q among d .equations → coneOf d e ∋ q .left → ((v : ℕ) → coneOf d e ∋ v → bit s v ≡ bit t v) → value s (q .right) ≡ value t (q .right)
 cone-value d e q s t m i h =
     value-agree (q .right) s t (λ v j. h v (each-at (Carried (coneOf d e)) (d .equations) q (cone-closed (d .equations) (written e)) m i v j))
-
--- general: a state seen on a set
-
-pub meet-in : (s c v : ℕ) → c ∋ v → bit (meet s c) v ≡ bit s v
-meet-in s c v i = omega (arith, bit-meet s c v, bit-lt s v, i)
 
 -- ---- a run of the deck, seen on the cone
 
@@ -84,8 +79,8 @@ run-seen L d e a w r h =
       starts = among-projected (coneOf d e) (d .inits) (r 0) (h .starts);
       within = λ k. meet-right (r k) (coneOf d e);
       steps = λ k v i.
-          takes-alike d e (r k) (meet (r k) (coneOf d e)) v (bit (meet (r (suc k)) (coneOf d e)) v) i (λ u j. sym (meet-in (r k) (coneOf d e) u j)) .0
-          (subst (λ (x : ℕ). Takes d (r k) v x) (sym (meet-in (r (suc k)) (coneOf d e) v i)) (h .steps k v (cone-in L d (written e) a w v i)));
+          takes-alike d e (r k) (meet (r k) (coneOf d e)) v (bit (meet (r (suc k)) (coneOf d e)) v) i (λ u j. sym (bit-meet-in (r k) (coneOf d e) u j)) .0
+          (subst (λ (x : ℕ). Takes d (r k) v x) (sym (bit-meet-in (r (suc k)) (coneOf d e) v i)) (h .steps k v (cone-in L d (written e) a w v i)));
     }
 
 pub loops-seen : (r : Run) (c : ℕ) → Loops r → Loops (seen r c)
@@ -334,7 +329,7 @@ extended-run L d e a w r h s m q =
     inside k = subset-trans (r k) (coneOf d e) (d .vars) (h .within k) (cone-in L d (written e) a w)
 
     first : (v : ℕ) → coneOf d e ∋ v → bit s v ≡ bit (r 0) v
-    first v i = sym (ap (λ (t : ℕ). bit t v) q ∙ meet-in s (coneOf d e) v i)
+    first v i = sym (ap (λ (t : ℕ). bit t v) q ∙ bit-meet-in s (coneOf d e) v i)
 
 -- A looping run of a piece extends to a looping run of the whole deck that agrees with it on the cone at every place.
 pub run-extended : (L : Limits) (d : Deck) (e : Expr) → Accepted L d → written e ⊆ d .vars → (r : Run) → RunOf (piece d e) r → Loops r
@@ -346,7 +341,7 @@ run-extended L d e a w r h l =
       extended d (coneOf d e) r s,
       run,
       extended-loops d (coneOf d e) r s (d .vars) (run .within) l,
-      extended-agrees d (coneOf d e) r s (λ v i. sym (ap (λ (t : ℕ). bit t v) q ∙ meet-in s (coneOf d e) v i)),
+      extended-agrees d (coneOf d e) r s (λ v i. sym (ap (λ (t : ℕ). bit t v) q ∙ bit-meet-in s (coneOf d e) v i)),
     )
 
 -- ---- runs that break the property
@@ -378,7 +373,7 @@ broken-piece L d e a w = (there, back)
       seen r (coneOf d e),
       run-seen L d e a w r h,
       loops-seen r (coneOf d e) l,
-      λ k. b (cone-truth d e (seen r (coneOf d e)) r (λ i v j. meet-in (r i) (coneOf d e) v j) .0 k),
+      λ k. b (cone-truth d e (seen r (coneOf d e)) r (λ i v j. bit-meet-in (r i) (coneOf d e) v j) .0 k),
     )
 
     back : Broken (piece d e) → (r : Run) × RunOf d r × Loops r × Breaks r e

@@ -6,3 +6,4 @@ pub mod Operators
 pub mod Pieces
 pub mod Spelling
 pub mod Truth
+pub mod Verdict

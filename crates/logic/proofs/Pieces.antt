@@ -8,23 +8,17 @@ use native.Mathlib.Omega.{arith}
 use native.Mathlib.Nat.{le-refl}
 use lib.Dec.{eqb}
 use borrow.Author.Tests.{eqb-true}
-use lib.Bits.{and-le-l}
 use lib.ListN.{length, length-append, length-map}
 use Rattle.lists.specs.Lists.{Each, Some, _among_, keep, firsts}
 use Rattle.lists.proofs.Laws.{each-at, each-all, each-map, some-find, find-some, each-append, append-each, each-of-map, among-of-map, map-among, firsts-distinct, length-firsts, among-firsts, firsts-among, among-keep, keep-among, each-keep, length-keep, keep-keep}
 use Rattle.sets.specs.Sets.{_∋_, _⊆_, has, meet}
-use Rattle.sets.proofs.Laws.{has-true, true-has, subset-refl, subset-trans, subset-antisym, union-left, union-right, meet-right, meet-most}
+use Rattle.sets.proofs.Laws.{subset-le, has-true, true-has, subset-refl, subset-trans, union-left, union-right, meet-right}
 use Rattle.logic.specs.Expressions.{Expr, Const, Var, One, Two, And, Or, Until, Weak, nodes, levels, written}
 use Rattle.logic.specs.Decks.{Equation, Deck, Limits, totalNodes, Rising, Allowed, Accepted}
 use Rattle.logic.specs.Meaning.{Run, Holds}
 use Rattle.logic.specs.Cones.{IsCone, cone}
 use Rattle.logic.specs.Pieces.{split, coneOf, projected, equationsOf, piece, pieces}
 use Rattle.logic.proofs.Cone.{Carried, equationsFor, cone-agree, cone-is, cone-closed, cone-in}
-
--- general: a set is no less than what it holds
-
-pub subset-le : (s t : ℕ) → s ⊆ t → s ≤ t
-subset-le s t f = subst (λ (u : ℕ). u ≤ t) (subset-antisym (meet t s) s (meet-right t s) (meet-most t s s f (subset-refl s))) (and-le-l t s)
 
 -- ---- the split
 
