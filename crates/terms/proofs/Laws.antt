@@ -1,23 +1,21 @@
 -- How a pass over nodes begins, goes on by one node, and ends.
-use mathlib.Core.Path.{_≡_, refl, sym, ap, ap₂, _∙_, subst}
-use mathlib.Core.Bool.{Bool, true, false, not}
-use mathlib.Core.List.{List, [], _∷_, _++_, append-assoc, append-nil, head-eq-of-cons-eq, tail-eq-of-cons-eq}
-use Prim.Native.Nat.{ℕ, zero, suc, _+_, _-_, _*_, _%_, _^_, _<_, _≤_, max}
+use mathlib.Core.Path.{_≡_, refl, sym, ap, ap₂, _∙_}
+use mathlib.Core.Bool.{Bool, true, false}
+use mathlib.Core.List.{List, [], _∷_}
+use Prim.Native.Nat.{ℕ, suc, _+_, _-_, _*_, _%_, _^_, _<_, _≤_}
 use native.Mathlib.Omega.{arith}
 use native.Mathlib.Nat.{one-mul}
 use native.Mathlib.Numerals.{add-one}
-use borrow.Author.Tests.{lt-ltb, le-ltb, lt-leb, le-leb, ltb-true, ltb-false}
-use lib.Dec.{ltb, leb, eqb, lit<}
+use borrow.Author.Tests.{lt-ltb, le-ltb}
+use lib.Dec.{ltb, lit<}
 use lib.ListN.{length, take, drop, getD, drop-of-length-le}
-use lib.Seq.{take-nil, drop-cons, take-at, drop-at, drop-drop}
+use lib.Seq.{take-nil, drop-cons}
 use lib.Pow.{shl-exact}
-use lib.Bits.{or-zero-l, or-zero-r, or-lt}
-use Rattle.sets.specs.Sets.{only, union}
+use lib.Bits.{or-zero-l, or-zero-r}
+use Rattle.sets.specs.Sets.{union}
 use Rattle.sets.proofs.Laws.{ext, bit-union}
-use Rattle.logic.specs.Expressions.{Expr, Const, Var, One, Two, Op1, Op2, Not, Next, Future, Always, And, Or, Until, Weak, nodes, levels, written, Plain, constNode, node1, node2, code}
-use Rattle.logic.specs.Decks.{base}
-use Rattle.logic.proofs.Codes.{Below, Narrow, below-more, length-code}
-use Rattle.terms.specs.Nodes.{constant?, placesOf, temporal?, spans, part, variableOf, variablesOf, someTemporal, plain?, Stands}
+use Rattle.logic.specs.Expressions.{nodes, written}
+use Rattle.terms.specs.Nodes.{constant?, placesOf, temporal?, spans, part, variableOf, variablesOf, someTemporal}
 
 -- general:
 pub union-assoc : (s t u : ℕ) → union s (union t u) ≡ union (union s t) u

@@ -1,20 +1,18 @@
 -- What the passes over nodes give where the nodes are the code of an expression.
 use mathlib.Core.Path.{_≡_, refl, sym, ap, ap₂, _∙_}
 use mathlib.Core.Bool.{Bool, true, false, not, _&&_, _||_, false≢true}
-use mathlib.Core.List.{List, [], _∷_, _++_, append-assoc, append-nil, head-eq-of-cons-eq, tail-eq-of-cons-eq}
-use Prim.Native.Nat.{ℕ, zero, suc, _+_, _-_, _<_, _≤_}
+use mathlib.Core.List.{List, [], _∷_, _++_, append-assoc}
+use Prim.Native.Nat.{ℕ, suc, _+_, _-_, _<_, _≤_}
 use native.Mathlib.Omega.{arith}
-use native.Mathlib.Numerals.{add-one}
-use borrow.Author.Tests.{lt-ltb, le-ltb, lt-leb, le-leb}
-use lib.Dec.{ltb, leb}
+use borrow.Author.Tests.{lt-ltb, lt-leb}
 use lib.ListN.{length, take, drop, getD, length-append, length-drop}
 use lib.Seq.{take-at, drop-at, drop-drop, getD-drop}
 use lib.Bits.{or-zero-l, or-zero-r}
 use Rattle.sets.specs.Sets.{only, union}
-use Rattle.logic.specs.Expressions.{Expr, Const, Var, One, Two, Op1, Op2, Not, Next, Future, Always, And, Or, Until, Weak, nodes, levels, written, Plain, constNode, node1, node2, code}
+use Rattle.logic.specs.Expressions.{Expr, Const, Var, One, Two, Op1, Op2, Not, Next, Future, Always, And, Or, Until, Weak, nodes, written, Plain, constNode, node1, node2, code}
 use Rattle.logic.proofs.Codes.{Below, Narrow, code-unique, length-code, nodes-some}
 use Rattle.terms.specs.Nodes.{placesOf, temporal?, spans, part, variableOf, variablesOf, someTemporal, plain?, Stands}
-use Rattle.terms.proofs.Laws.{union-assoc, places-leaf, spans-none, variable-high}
+use Rattle.terms.proofs.Laws.{union-assoc, spans-none, variable-high}
 
 -- ---- how many operands a node has
 

@@ -2,33 +2,36 @@
 use mathlib.Core.Path.{_≡_}
 use mathlib.Core.Bool.{Bool, true, false, _&&_, _||_}
 use mathlib.Core.List.{List, [], _∷_, _++_}
-use Prim.Native.Nat.{ℕ, zero, suc, _+_, _-_, _<_, _≤_}
-use lib.Dec.{ltb, leb, eqb}
+use Prim.Native.Nat.{ℕ, zero, suc, _+_, _-_}
+use lib.Dec.{ltb, leb}
 use lib.ListN.{take, drop}
 use Rattle.sets.specs.Sets.{only, union}
-use Rattle.logic.specs.Expressions.{Expr, Const, Var, One, Two, Not, Next, Future, Always, And, Or, Until, Weak, nodes, levels, code}
+use Rattle.logic.specs.Expressions.{Expr, Const, Var, One, Two, Not, Next, Future, Always, And, Or, Until, Weak, constNode, node1, node2, code}
 use Rattle.logic.specs.Decks.{base}
 use Rattle.logic.proofs.Codes.{Narrow}
 
 -- Whether the node is a variable.
 abbrev pub variable? : ℕ → Bool
-variable? c = ltb c 256
+variable? c = ltb c (constNode false)
 
 -- How many operands the node has: a variable or constant none, `~ X F G` one, `& + U W` two.
 unfoldable pub placesOf : ℕ → ℕ
 placesOf c =
-    elim (ltb c 258) [
+    elim (ltb c (node1 Not)) [
       | true ↦ 0
-      | false ↦ elim (ltb c 259) [ true ↦ 1 | false ↦ elim (ltb c 261) [ true ↦ 2 | false ↦ elim (ltb c 264) [ true ↦ 1 | false ↦ 2 ] ] ]
+      | false ↦ elim (ltb c (node2 And)) [
+        | true ↦ 1
+        | false ↦ elim (ltb c (node1 Next)) [ true ↦ 2 | false ↦ elim (ltb c (node2 Until)) [ true ↦ 1 | false ↦ 2 ] ]
+      ]
     ]
 
 -- Whether the node is `0` or `1`.
 unfoldable pub constant? : ℕ → Bool
-constant? c = elim (ltb c 256) [ true ↦ false | false ↦ ltb c 258 ]
+constant? c = elim (variable? c) [ true ↦ false | false ↦ ltb c (node1 Not) ]
 
 -- Whether the node is one of `X F G U W`.
 abbrev pub temporal? : ℕ → Bool
-temporal? c = leb 261 c
+temporal? c = leb (node1 Next) c
 
 -- The nodes that the first n expressions of the list take; all of them, where the list ends before.
 unfoldable pub spans : ℕ → List ℕ → ℕ

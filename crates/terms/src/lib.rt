@@ -111,7 +111,8 @@ pub fn second(nodes: &[u16], at: usize) -> usize
     requires { ⌜ at < length (now nodes) ⌝ }
     ensures { λ r. ⌜ r ≡ at + 1 + spans 1 (drop (at + 1) (now (nodes .entry))) ⌝ }
 {
-    end_of(nodes, at + 1)
+    let first = at + 1;
+    end_of(nodes, first)
 }
 
 // The set of the variable that the node is.
