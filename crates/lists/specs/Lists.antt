@@ -54,3 +54,23 @@ padded n l = l ++ replicate (n - length l) 0
 -- The buffer l with vs put over its places from i on.
 abbrev pub splice : ℕ → List ℕ → List ℕ → List ℕ
 splice i vs l = take i l ++ (vs ++ drop (i + length vs) l)
+
+-- The byte at the front of the first line, where there is a line.
+unfoldable pub fronted : ℕ → List (List ℕ) → List (List ℕ)
+fronted b [] = []
+fronted b (l ∷ ls) = (b ∷ l) ∷ ls
+
+-- The lines of a text that byte 10 ends, without it, in their order.
+unfoldable pub ended : List ℕ → List (List ℕ)
+ended [] = []
+ended (b ∷ bs) = elim (eqb b 10) [ true ↦ [] ∷ ended bs | false ↦ fronted b (ended bs) ]
+
+-- What stands behind the last byte 10 of a text.
+unfoldable pub unended : List ℕ → List ℕ
+unended [] = []
+unended (b ∷ bs) = elim (stands 10 (b ∷ bs)) [ true ↦ unended bs | false ↦ b ∷ bs ]
+
+-- The lines one behind the other, each followed by byte 10.
+unfoldable pub joined : List (List ℕ) → List ℕ
+joined [] = []
+joined (l ∷ ls) = l ++ 10 ∷ joined ls
