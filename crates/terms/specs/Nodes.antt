@@ -5,9 +5,8 @@ use mathlib.Core.List.{List, [], _∷_, _++_}
 use Prim.Native.Nat.{ℕ, zero, suc, _+_, _-_}
 use lib.Dec.{ltb, leb}
 use lib.ListN.{take, drop}
-use Rattle.sets.specs.Sets.{only, union}
+use Rattle.sets.specs.Sets.{only, union, width}
 use Rattle.logic.specs.Expressions.{Expr, Const, Var, One, Two, Not, Next, Future, Always, And, Or, Until, Weak, constNode, node1, node2, code}
-use Rattle.logic.specs.Decks.{base}
 use Rattle.logic.proofs.Codes.{Narrow}
 
 -- Whether the node is a variable.
@@ -43,9 +42,9 @@ spans (suc n) (c ∷ cs) = suc (spans (n + placesOf c) cs)
 abbrev pub part : ℕ → ℕ → List ℕ → List ℕ
 part i j cs = take (j - i) (drop i cs)
 
--- The set of the variable that the node is; of any other node nothing.
+-- The set of the variable that the node is; nothing of any other node, nor of a variable for which a word has no room.
 unfoldable pub variableOf : ℕ → ℕ
-variableOf c = elim (ltb c (base .variables)) [ true ↦ only c | false ↦ 0 ]
+variableOf c = elim (ltb c width) [ true ↦ only c | false ↦ 0 ]
 
 -- The set of the variables among the nodes.
 unfoldable pub variablesOf : List ℕ → ℕ
