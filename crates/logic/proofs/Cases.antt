@@ -127,30 +127,30 @@ or-and-and = (refl, refl)
 
 -- Of {V1}, of {V3} and of nothing.
 pub worked-cone-1 : (cone (worked .equations) (only 1) ≡ union (only 0) (only 1)) × (size (cone (worked .equations) (only 1)) ≡ 2)
-unfolding cone passes grown written ones
+unfolding cone passes grown written keep ones
 worked-cone-1 = (refl, refl)
 
 pub worked-cone-3 : (cone (worked .equations) (only 3) ≡ union (only 2) (only 3)) × (size (cone (worked .equations) (only 3)) ≡ 2)
-unfolding cone passes grown written ones
+unfolding cone passes grown written keep ones
 worked-cone-3 = (refl, refl)
 
 pub worked-cone-nothing : (cone (worked .equations) 0 ≡ 0) × (size (cone (worked .equations) 0) ≡ 0)
-unfolding cone passes grown written ones
+unfolding cone passes grown written keep ones
 worked-cone-nothing = (refl, refl)
 
 -- Only the second equation of V0 writes V1.
 pub cone-by-second : cone (is 0 (Const false) ∷ is 0 (Var 1) ∷ is 1 (Const true) ∷ []) (only 0) ≡ union (only 0) (only 1)
-unfolding cone passes grown written
+unfolding cone passes grown written keep
 cone-by-second = refl
 
 -- V0 comes in behind V1, which comes in behind V2: against the order of the equations.
 pub cone-backwards : cone (is 0 (Const false) ∷ is 1 (Var 0) ∷ is 2 (Var 1) ∷ []) (only 2) ≡ union (only 0) (union (only 1) (only 2))
-unfolding cone passes grown written
+unfolding cone passes grown written keep
 cone-backwards = refl
 
 -- What is written counts: `(V3+~V3)` depends on V3.
 pub cone-as-written : cone (is 0 (Two Or (Var 3) (One Not (Var 3))) ∷ is 3 (Const false) ∷ []) (only 0) ≡ union (only 0) (only 3)
-unfolding cone passes grown written
+unfolding cone passes grown written keep
 cone-as-written = refl
 
 -- `((V0&V1)&V0)` has three conjuncts, in this order; an equal one counts again.
