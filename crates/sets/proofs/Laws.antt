@@ -316,10 +316,6 @@ meet-member s v h = and-comm s (only v) ∙ subset-meet (only v) s (only-least v
 pub meet-none : (s v : ℕ) → (s ∋ v → ⊥) → meet s (only v) ≡ 0
 meet-none s v n = sym (all-zero (meet s (only v)) (λ i. not-in (meet s (only v)) i (λ m. n (subst (λ (j : ℕ). s ∋ j) (only-bit v i (meet-right s (only v) i m)) (meet-left s (only v) i m)))))
 
--- A new variable, and one taken out.
-pub size-new : (s v : ℕ) → (s ∋ v → ⊥) → size (union s (only v)) ≡ size s + 1
-size-new s v n = omega (arith, size-union-meet s (only v), ap size (meet-none s v n), size-zero, size-only v)
-
 -- A set is what it has without t and what it shares with t.
 pub without-meet-union : (s t : ℕ) → union (without s t) (meet s t) ≡ s
 without-meet-union s t =
@@ -334,6 +330,10 @@ without-meet s t =
 
 pub size-without : (s t : ℕ) → size (without s t) + size (meet s t) ≡ size s
 size-without s t = omega (arith, size-union-meet (without s t) (meet s t), ap size (without-meet-union s t), ap size (without-meet s t), size-zero)
+
+-- A new variable is one more, one taken out is one less.
+pub size-new : (s v : ℕ) → (s ∋ v → ⊥) → size (union s (only v)) ≡ size s + 1
+size-new s v n = omega (arith, size-union-meet s (only v), ap size (meet-none s v n), size-zero, size-only v)
 
 pub size-less : (s v : ℕ) → s ∋ v → size (without s (only v)) + 1 ≡ size s
 size-less s v h = omega (arith, size-without s (only v), ap size (meet-member s v h), size-only v)
