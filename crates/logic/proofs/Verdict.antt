@@ -6,7 +6,7 @@ use mathlib.Core.List.{List, [], _∷_}
 use Prim.Native.Nat.{ℕ, zero, suc, _+_, _-_, _<_, _≤_, min, max}
 use native.Mathlib.Omega.{arith}
 use native.Mathlib.Nat.{le-refl}
-use native.Mathlib.Decide.{decLt, le-ind}
+use native.Mathlib.Decide.{decLt, ℕ-discrete, le-ind}
 use lib.Dec.{eqb}
 use lib.ListN.{getD}
 use borrow.Author.Tests.{eqb-true, eqb-false, eq-eqb, lt-ltb, le-ltb}
@@ -143,32 +143,55 @@ truth-lt m (Two Or a b) i = omega (arith, truth-lt m a i, truth-lt m b i)
 truth-lt m (Two Until a b) i = unrolled-lt m 0 (truth m a) (truth m b) (omega arith) (truth-lt m a) (truth-lt m b) (m .p + m .c) i
 truth-lt m (Two Weak a b) i = unrolled-lt m 1 (truth m a) (truth m b) (omega arith) (truth-lt m a) (truth-lt m b) (m .p + m .c) i
 
+same-digit : (u v : ℕ) → u < 2 → v < 2 → (u ≡ 1 → v ≡ 1) → (v ≡ 1 → u ≡ 1) → u ≡ v
+same-digit zero v hu hv f g = by-cases (ℕ-discrete v 1) (λ e. g e ∙ sym e) (λ n. omega arith)
+same-digit (suc u) v hu hv f g = let e : suc u ≡ 1 = omega arith in e ∙ sym (f e)
+
 module _ (L : Limits) (m : Claim) (sized : Sized L m) where
   -- From any place, p + c places on all that can come has come.
   all-comes : (e : Expr) (k i : ℕ) → k ≤ i → (j : ℕ) × (k ≤ j) × (j ≤ i) × (j < max k (m .p) + m .c) × (Holds (claimRun m) e i ↔ Holds (claimRun m) e j)
   all-comes e = no-later e (claimRun m) (m .p) (m .c) (sized .some) (claim-later L m sized)
 
-  throughout-always : (a : Expr) (k : ℕ) → Throughout (Holds (claimRun m) a) k (m .p + m .c) ↔ Holds (claimRun m) (One Always a) k
-  throughout-always a k = (λ f i l. let s = all-comes a k i l in s .4 .1 (f (s .0) (s .1) (omega (arith, s .3))), λ f j l u. f j l)
+  throughout-always : (a : Expr) (n k : ℕ) → max k (m .p) + m .c ≤ k + n → Throughout (Holds (claimRun m) a) k n ↔ Holds (claimRun m) (One Always a) k
+  throughout-always a n k h = (λ f i l. let s = all-comes a k i l in s .4 .1 (f (s .0) (s .1) (omega (arith, s .3))), λ f j l u. f j l)
 
-  within-until : (a b : Expr) (k : ℕ) → Within (Holds (claimRun m) a) (Holds (claimRun m) b) k (m .p + m .c) ↔ Holds (claimRun m) (Two Until a b) k
-  within-until a b k = (λ w. (w .0, w .1, w .3, w .4), λ w. let s = all-comes b k (w .0) (w .1) in (s .0, s .1, omega (arith, s .3), s .4 .0 (w .2), λ j x y. w .3 j x (omega (arith, y, s .2))))
+  within-until : (a b : Expr) (n k : ℕ) → max k (m .p) + m .c ≤ k + n → Within (Holds (claimRun m) a) (Holds (claimRun m) b) k n ↔ Holds (claimRun m) (Two Until a b) k
+  within-until a b n k h = (λ w. (w .0, w .1, w .3, w .4), λ w. let s = all-comes b k (w .0) (w .1) in (s .0, s .1, omega (arith, s .3), s .4 .0 (w .2), λ j x y. w .3 j x (omega (arith, y, s .2))))
 
   module _ (a b : Expr) (x y : ℕ → ℕ) (x-digit : (i : ℕ) → x i < 2) (y-digit : (i : ℕ) → y i < 2) (x-is : (k : ℕ) → Holds (claimRun m) a k ↔ x (position m k) ≡ 1) (y-is : (k : ℕ) → Holds (claimRun m) b k ↔ y (position m k) ≡ 1) where
-    until-worked : (k : ℕ) → Holds (claimRun m) (Two Until a b) k ↔ unrolled m 0 x y (m .p + m .c) (position m k) ≡ 1
-    until-worked k =
-        let both = unrolled-is m 0 x y (omega arith) x-digit y-digit (Holds (claimRun m) a) (Holds (claimRun m) b) x-is y-is (m .p + m .c) k in
-        let same = within-until a b k in
+    until-worked : (n k : ℕ) → max k (m .p) + m .c ≤ k + n → Holds (claimRun m) (Two Until a b) k ↔ unrolled m 0 x y n (position m k) ≡ 1
+    until-worked n k h =
+        let both = unrolled-is m 0 x y (omega arith) x-digit y-digit (Holds (claimRun m) a) (Holds (claimRun m) b) x-is y-is n k in
+        let same = within-until a b n k h in
         (λ t. both .0 (inl (same .1 t)), λ e. ⊎-elim (same .0) (λ w. absurd (omega (arith, w .0))) (both .1 e))
 
-    weak-worked : (k : ℕ) → Holds (claimRun m) (Two Weak a b) k ↔ unrolled m 1 x y (m .p + m .c) (position m k) ≡ 1
-    weak-worked k =
-        let both = unrolled-is m 1 x y (omega arith) x-digit y-digit (Holds (claimRun m) a) (Holds (claimRun m) b) x-is y-is (m .p + m .c) k in
-        let same = within-until a b k in
-        let ever = throughout-always a k in (
+    weak-worked : (n k : ℕ) → max k (m .p) + m .c ≤ k + n → Holds (claimRun m) (Two Weak a b) k ↔ unrolled m 1 x y n (position m k) ≡ 1
+    weak-worked n k h =
+        let both = unrolled-is m 1 x y (omega arith) x-digit y-digit (Holds (claimRun m) a) (Holds (claimRun m) b) x-is y-is n k in
+        let same = within-until a b n k h in
+        let ever = throughout-always a n k h in (
           ⊎-elim (λ t. both .0 (inl (same .1 t))) (λ t. both .0 (inr (refl, ever .1 t))),
           λ e. ⊎-elim (λ w. inl (same .0 w)) (λ w. inr (ever .0 (w .1))) (both .1 e),
         )
+
+    -- Once all that can come has come, more unrolling changes nothing.
+    enough : (z : ℕ) → z < 2 → (P : Type 0) (n i : ℕ) → i < m .p + m .c → (P ↔ unrolled m z x y n (position m i) ≡ 1) → (P ↔ unrolled m z x y (m .p + m .c) (position m i) ≡ 1) → unrolled m z x y n i ≡ unrolled m z x y (m .p + m .c) i
+    enough z l P n i h big all =
+        let e = position-is L m sized i h in
+        let digits = unrolled-lt m z x y l x-digit y-digit in
+        same-digit
+          (unrolled m z x y n i)
+          (unrolled m z x y (m .p + m .c) i)
+          (digits n i)
+          (digits (m .p + m .c) i)
+          (λ t. rw e at (all .0 (big .1 (rw e t))))
+          (λ t. rw e at (big .0 (all .1 (rw e t))))
+
+    pub until-enough : (n i : ℕ) → i < m .p + m .c → max i (m .p) + m .c ≤ i + n → unrolled m 0 x y n i ≡ unrolled m 0 x y (m .p + m .c) i
+    until-enough n i h l = enough 0 (omega arith) (Holds (claimRun m) (Two Until a b) i) n i h (until-worked n i l) (until-worked (m .p + m .c) i (omega arith))
+
+    pub weak-enough : (n i : ℕ) → i < m .p + m .c → max i (m .p) + m .c ≤ i + n → unrolled m 1 x y n i ≡ unrolled m 1 x y (m .p + m .c) i
+    weak-enough n i h l = enough 1 (omega arith) (Holds (claimRun m) (Two Weak a b) i) n i h (weak-worked n i l) (weak-worked (m .p + m .c) i (omega arith))
 
 -- The worked-out truth is the truth.
 pub truth-is : (L : Limits) (m : Claim) → Sized L m → (e : Expr) (k : ℕ) → (Holds (claimRun m) e k → truth m e (position m k) ≡ 1) × (truth m e (position m k) ≡ 1 → Holds (claimRun m) e k)
@@ -181,19 +204,19 @@ truth-is L m sized (One Next a) k = truth-is L m sized a (suc k)
 truth-is L m sized (One Future a) k =
     Iff·trans
     (future-is (claimRun m) k a)
-    (until-worked L m sized (Const true) a (λ j. 1) (truth m a) (λ j. omega arith) (truth-lt m a) (λ j. (λ t. refl, λ t. tt)) (truth-is L m sized a) k)
+    (until-worked L m sized (Const true) a (λ j. 1) (truth m a) (λ j. omega arith) (truth-lt m a) (λ j. (λ t. refl, λ t. tt)) (truth-is L m sized a) (m .p + m .c) k (omega arith))
 truth-is L m sized (One Always a) k =
     Iff·trans
     (Iff·symm (weak-never (claimRun m) k a))
-    (weak-worked L m sized a (Const false) (truth m a) (λ j. 0) (truth-lt m a) (λ j. omega arith) (truth-is L m sized a) (λ j. (λ t. absurd t, λ t. omega arith)) k)
+    (weak-worked L m sized a (Const false) (truth m a) (λ j. 0) (truth-lt m a) (λ j. omega arith) (truth-is L m sized a) (λ j. (λ t. absurd t, λ t. omega arith)) (m .p + m .c) k (omega arith))
 truth-is L m sized (Two And a b) k =
     digit-and (truth m a (position m k)) (truth m b (position m k)) (truth-lt m a (position m k)) (truth-lt m b (position m k)) (truth-is L m sized a k) (truth-is L m sized b k)
 truth-is L m sized (Two Or a b) k =
     digit-or (truth m a (position m k)) (truth m b (position m k)) (truth-lt m a (position m k)) (truth-lt m b (position m k)) (truth-is L m sized a k) (truth-is L m sized b k)
 truth-is L m sized (Two Until a b) k =
-    until-worked L m sized a b (truth m a) (truth m b) (truth-lt m a) (truth-lt m b) (truth-is L m sized a) (truth-is L m sized b) k
+    until-worked L m sized a b (truth m a) (truth m b) (truth-lt m a) (truth-lt m b) (truth-is L m sized a) (truth-is L m sized b) (m .p + m .c) k (omega arith)
 truth-is L m sized (Two Weak a b) k =
-    weak-worked L m sized a b (truth m a) (truth m b) (truth-lt m a) (truth-lt m b) (truth-is L m sized a) (truth-is L m sized b) k
+    weak-worked L m sized a b (truth m a) (truth m b) (truth-lt m a) (truth-lt m b) (truth-is L m sized a) (truth-is L m sized b) (m .p + m .c) k (omega arith)
 
 -- general: sets and lists
 
