@@ -3,3 +3,5 @@ pub mod HexLaws
 pub mod ExprLaws
 pub mod LineLaws
 pub mod SizeLaws
+pub mod LeftLaws
+pub mod DeckLaws
