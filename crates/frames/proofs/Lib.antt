@@ -5,3 +5,4 @@ pub mod LineLaws
 pub mod SizeLaws
 pub mod LeftLaws
 pub mod DeckLaws
+pub mod DeckTheorems
