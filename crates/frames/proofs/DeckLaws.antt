@@ -1,13 +1,13 @@
 -- Laws of decks as lines: the lines of a deck's frames, and what the tests of its lines say.
-use mathlib.Core.Path.{_≡_, refl, sym, ap, _∙_, subst}
-use mathlib.Core.Logic.{_⊎_, inl, inr, ⊎-elim}
+use mathlib.Core.Path.{_≡_, refl, sym, ap, _∙_}
+use mathlib.Core.Logic.{inl, inr}
 use mathlib.Core.Bool.{Bool, true, false}
 use mathlib.Core.List.{List, [], _∷_, _++_, map, append-assoc, append-nil}
-use Prim.Native.Nat.{ℕ, _+_, _<_, _≤_}
+use Prim.Native.Nat.{ℕ, _+_, _≤_}
 use native.Mathlib.Omega.{arith}
 use lib.ListN.{length, length-append}
-use Rattle.lists.specs.Lists.{Each, Some, _among_, Distinct, joined}
-use Rattle.lists.proofs.Laws.{each-append, append-each, among-right}
+use Rattle.lists.specs.Lists.{Each, _among_, Distinct, joined}
+use Rattle.lists.proofs.Laws.{each-append, among-right}
 use Rattle.logic.specs.Expressions.{Expr, Const, Var, One, Two, Not, Next, Future, Always, And, Or, Until, Weak, Plain, temporal, code}
 use Rattle.logic.specs.Decks.{Equation, Deck, Rising, totalNodes}
 use Rattle.frames.specs.Hex.{pair, pairs}

@@ -1,28 +1,27 @@
 -- Frames there and back: a written accepted deck reads as that deck; what reads as a deck is that deck written, and the deck is accepted.
 use mathlib.Core.Path.{_≡_, refl, sym, ap, ap₂, _∙_, subst}
-use mathlib.Core.Logic.{_⊎_, inl, inr, ⊎-elim}
+use mathlib.Core.Logic.{_⊎_, inl, inr, ⊎-elim, _↔_}
 use mathlib.Core.Bool.{Bool, true, false, not, _||_}
-use mathlib.Core.List.{List, [], _∷_, _++_, map, append-assoc, append-nil}
+use mathlib.Core.List.{List, [], _∷_, _++_, append-assoc, append-nil}
 use Prim.Native.Nat.{ℕ, suc, _+_, _^_, _<_, _≤_}
 use native.Mathlib.Omega.{arith}
-use borrow.Author.Tests.{lt-ltb, le-ltb, ltb-true, ltb-false, eqb-true, not-false}
+use borrow.Author.Tests.{lt-ltb, le-ltb, ltb-true, ltb-false, eqb-true}
 use lib.Dec.{ltb, eqb}
 use lib.ListN.{length, drop, length-append}
 use Rattle.lists.specs.Lists.{Each, _among_, Distinct, stands, joined, ended, unended}
 use Rattle.lists.proofs.Laws.{each-at, each-append, among-right, stands-false, false-stands, distinct-snoc, ended-joined, unended-joined, joined-ended}
-use Rattle.sets.specs.Sets.{_∋_, _⊆_, has, inside}
+use Rattle.sets.specs.Sets.{_⊆_, has, inside}
 use Rattle.sets.proofs.Laws.{has-true, true-has, inside-true, true-inside, member-lt, subset-lt}
-use Rattle.logic.specs.Expressions.{Expr, Const, nodes, levels, written, Plain, temporal, code}
+use Rattle.logic.specs.Expressions.{Const, nodes, levels, written, temporal, code}
 use Rattle.logic.specs.Decks.{Equation, Deck, Accepted, Allowed, Rising, base, totalNodes}
-use Rattle.logic.proofs.Codes.{Below, written-below}
-use Rattle.decks.specs.declared.Answer.{Answer}
+use Rattle.logic.proofs.Codes.{written-below}
 use Rattle.decks.specs.declared.Answer.the-variants.{TooLong, BadFrame}
-use Rattle.decks.specs.Answers.{Outcome, Got, Refused, refuse, afterwards}
-use Rattle.frames.specs.Hex.{hexDigit, pair, pairs, byteOf}
+use Rattle.decks.specs.Answers.{Outcome, Got, Refused, refuse}
+use Rattle.frames.specs.Hex.{pairs, byteOf}
 use Rattle.frames.specs.Written.{setBytes, setKind, initKind, equationKind, propertyKind, countKind, nodePairs, deckFrames}
-use Rattle.frames.specs.Read.{Due, DueSet, DueInit, DueAny, DueEquation, DueCount, DueNone, Sofar, begun, wholeNumber, wholeExpr, kindOf, walk, setLine, initLine, lastLeft, withEquation, equationLine, propertyLine, countLine, permits, frameLine, deckLine, leftSet, complete, deckEnd, readDeck}
+use Rattle.frames.specs.Read.{Due, DueSet, DueInit, DueAny, DueEquation, DueCount, DueNone, Sofar, begun, wholeNumber, wholeExpr, kindOf, walk, setLine, initLine, lastLeft, withEquation, equationLine, propertyLine, countLine, permits, frameLine, deckLine, complete, deckEnd, readDeck}
 use Rattle.frames.proofs.HexLaws.{byte-pair, pair-byte}
-use Rattle.frames.proofs.LineLaws.{Given, got-given, refuse-given, refuse-not-given, afterwards-given, refused-got, walk-got, walk-keeps, line, kind-line, line-kind, stateLines, whole-number-pairs, whole-number-got, whole-expr-pairs, whole-expr-got, count-line-pairs, count-line-given}
+use Rattle.frames.proofs.LineLaws.{Given, got-given, refuse-given, refuse-not-given, afterwards-given, walk-got, walk-keeps, line, kind-line, line-kind, stateLines, whole-number-pairs, whole-number-got, whole-expr-pairs, whole-expr-got, count-line-pairs, count-line-given}
 use Rattle.frames.proofs.LeftLaws.{complete-all, all-complete}
 use Rattle.frames.proofs.SizeLaws.{deck-within-text}
 use Rattle.frames.proofs.DeckLaws.{distinct-before, plain-temporal, temporal-plain, total-append, rising-snoc, rising-before, equationContent, equationLines, headLines, propertyContent, propertyOf, countContent, countOf, deckLines, deck-frames-joined, deck-lines-free, length-head-lines, map-append}
@@ -446,3 +445,17 @@ deck-read-written t d e = got-given (Returns t) (readDeck t) d (deck-given t) e 
 -- What reads as a deck is accepted.
 pub deck-read-accepted : (t : List ℕ) (d : Deck) → readDeck t ≡ Got d → Accepted base d
 deck-read-accepted t d e = got-given (Returns t) (readDeck t) d (deck-given t) e .1
+
+-- 1 goes before everything else.
+pub deck-too-long : (t : List ℕ) → base .text < length t → readDeck t ≡ Refused (TooLong 1)
+unfolding readDeck
+deck-too-long t h = simp (lt-ltb (base .text) (length t) h, readDeck)
+
+-- A text reads as a deck exactly when it is the deck's frames and the deck is accepted.
+pub deck-read-exactly-when : (t : List ℕ) (d : Deck) → (readDeck t ≡ Got d) ↔ ((t ≡ deckFrames d) × Accepted base d)
+deck-read-exactly-when t d = (got-given (Returns t) (readDeck t) d (deck-given t), λ r. ap readDeck (r .0) ∙ deck-written-read d (r .1))
+
+-- Two accepted decks with the same frames are one deck.
+pub deck-frames-injective : (d e : Deck) → Accepted base d → Accepted base e → deckFrames d ≡ deckFrames e → d ≡ e
+deck-frames-injective d e p q h =
+    let same : Got d ≡ Got e = sym (deck-written-read d p) ∙ ap readDeck h ∙ deck-written-read e q in cc

@@ -1,24 +1,21 @@
 -- Laws of expressions in pairs: what is written is read back, only what is written is read, and one level more changes nothing but a depth.
-use mathlib.Core.Path.{_≡_, refl, sym, ap, ap₂, _∙_, subst}
-use mathlib.Core.Logic.{_⊎_, inl, inr, ⊎-elim, by-cases}
+use mathlib.Core.Path.{_≡_, refl, sym, ap, _∙_, subst}
+use mathlib.Core.Logic.{by-cases}
 use mathlib.Core.Bool.{Bool, true, false}
-use mathlib.Core.List.{List, [], _∷_, _++_, append-assoc, append-nil}
-use Prim.Native.Nat.{ℕ, zero, suc, _+_, _-_, _*_, _/_, _%_, _^_, _<_, _≤_, max}
+use mathlib.Core.List.{List, [], _∷_, _++_, append-assoc}
+use Prim.Native.Nat.{ℕ, zero, suc, _+_, _-_, _*_, _^_, _<_, _≤_}
 use native.Mathlib.Omega.{arith}
 use native.Mathlib.Decide.{decLt}
 use borrow.Author.Tests.{lt-ltb, le-ltb}
-use lib.Dec.{ltb}
-use lib.ListN.{length, getD, length-append}
+use lib.ListN.{length, getD}
 use lib.Pow.{pow-pos, pow-lt}
 use Rattle.lists.specs.Lists.{Each}
-use Rattle.lists.proofs.Laws.{each-append}
-use Rattle.sets.specs.Sets.{_⊆_}
-use Rattle.sets.proofs.Laws.{subset-refl, union-lt}
-use Rattle.logic.specs.Expressions.{Expr, Const, Var, One, Two, Op1, Op2, Not, Next, Future, Always, And, Or, Until, Weak, nodes, levels, written, constNode, node1, node2, code}
-use Rattle.logic.proofs.Codes.{Below, written-below, levels-some, length-code}
-use Rattle.frames.specs.Hex.{hexDigit, pair, byteOf}
+use Rattle.sets.proofs.Laws.{union-lt}
+use Rattle.logic.specs.Expressions.{Expr, Const, Var, One, Two, Op1, Op2, Not, Next, Future, Always, And, Or, Until, Weak, levels, written, constNode, node1, node2, code}
+use Rattle.logic.proofs.Codes.{Below, levels-some}
+use Rattle.frames.specs.Hex.{pair, byteOf}
 use Rattle.frames.specs.Written.{codeByte, nodePairs}
-use Rattle.frames.specs.Read.{Sign, Leaf, Before, Between, NoSign, signs, signOf, Reading, Whole, Wrong, Deep, onward, signed, levelled, begins, readExpr}
+use Rattle.frames.specs.Read.{Sign, Leaf, Before, Between, NoSign, signs, signOf, Reading, Whole, Wrong, Deep, onward, levelled, begins, readExpr}
 use Rattle.frames.proofs.HexLaws.{byte-pair, pair-byte, hex-from-zero}
 
 -- ---- the code of a sign

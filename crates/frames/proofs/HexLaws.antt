@@ -1,19 +1,16 @@
 -- Laws of hexadecimal pairs: what is written is read back, and only what is written is read.
 use mathlib.Core.Path.{_≡_, refl, sym, ap, ap₂, _∙_}
 use mathlib.Core.Logic.{_⊎_, inl, inr, ⊎-elim, by-cases}
-use mathlib.Core.Bool.{Bool, true, false}
 use mathlib.Core.List.{List, [], _∷_, _++_}
-use mathlib.Core.Option.{Option, none, some}
+use mathlib.Core.Option.{none, some}
 use Prim.Native.Nat.{ℕ, zero, suc, _+_, _-_, _*_, _/_, _%_, _^_, _<_, _≤_}
 use native.Mathlib.Omega.{arith}
 use native.Mathlib.Nat.{mod-lt, mod-eq-of-lt, div-add-mod', div-div-eq-div-mul, pow-suc}
 use native.Mathlib.Decide.{decLt, decLe}
-use borrow.Author.Tests.{lt-ltb, le-ltb, le-leb, lt-leb, ltb-true, ltb-false}
-use lib.Dec.{ltb}
+use borrow.Author.Tests.{lt-ltb, le-ltb, le-leb, lt-leb}
 use lib.Arith.{mod-mul}
 use lib.ListN.{length}
-use Rattle.lists.specs.Lists.{Each, _among_}
-use Rattle.lists.proofs.Laws.{each-at, each-append}
+use Rattle.lists.specs.Lists.{Each}
 use Rattle.frames.specs.Hex.{hexDigit, pair, pairs, digitOf, byteOf, numberFrom, number}
 
 -- ---- digits

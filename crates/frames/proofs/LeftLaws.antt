@@ -1,21 +1,19 @@
 -- The left sides of a deck's equations: the test of 15 says that every variable has an equation, and names the lowest without one.
 use mathlib.Core.Path.{_≡_, refl, sym, ap, _∙_, subst}
-use mathlib.Core.Logic.{_⊎_, inl, inr, ⊎-elim, by-cases}
-use mathlib.Core.Bool.{Bool, true, false, not}
-use mathlib.Core.List.{List, [], _∷_, _++_}
-use Prim.Native.Nat.{ℕ, _+_, _-_, _^_, _<_, _≤_}
+use mathlib.Core.Logic.{inl, inr, ⊎-elim, by-cases}
+use mathlib.Core.List.{List, [], _∷_}
+use Prim.Native.Nat.{ℕ, _^_, _<_}
 use native.Mathlib.Omega.{arith}
 use native.Mathlib.Decide.{ℕ-discrete}
-use borrow.Author.Tests.{eq-eqb, ne-eqb, eqb-true}
-use lib.Dec.{eqb}
+use borrow.Author.Tests.{eq-eqb, ne-eqb}
 use lib.Count.{trailingZeros}
 use Rattle.lists.specs.Lists.{Some}
-use Rattle.sets.specs.Sets.{_∋_, union, only, without, Lowest}
+use Rattle.sets.specs.Sets.{_∋_, only, without, Lowest}
 use Rattle.sets.proofs.Laws.{bit-zero, bit-union, bit-or-zero, bit-only, only-bit, union-left, union-right, member-dec, subset-without, without-subset, without-left, without-out, without-in, without-lt, trailing-lowest, lowest-unique}
 use Rattle.logic.specs.Decks.{Equation, Deck, base}
 use Rattle.decks.specs.declared.Answer.{Answer}
 use Rattle.decks.specs.declared.Answer.the-variants.{NoEquation}
-use Rattle.decks.specs.Answers.{Outcome, Got, Refused, refuse}
+use Rattle.decks.specs.Answers.{Outcome, Got, Refused}
 use Rattle.frames.specs.Read.{leftSet, complete}
 use Rattle.frames.proofs.LineLaws.{refused-got}
 

@@ -6,3 +6,4 @@ pub mod SizeLaws
 pub mod LeftLaws
 pub mod DeckLaws
 pub mod DeckTheorems
+pub mod ClaimTheorems

@@ -1,9 +1,9 @@
 -- Laws of lines: what a line of each form is read as, what a line that is read was, and the walk over lines.
-use mathlib.Core.Path.{_≡_, refl, sym, ap, ap₂, _∙_, subst}
+use mathlib.Core.Path.{_≡_, refl, sym, ap, _∙_, subst}
 use mathlib.Core.Bool.{Bool, true, false, not}
 use mathlib.Core.List.{List, [], _∷_, _++_, map, append-assoc, append-nil}
 use mathlib.Core.Option.{Option, none, some}
-use Prim.Native.Nat.{ℕ, zero, suc, _+_, _*_, _^_, _<_, _≤_}
+use Prim.Native.Nat.{ℕ, suc, _+_, _^_, _<_, _≤_}
 use native.Mathlib.Omega.{arith}
 use borrow.Author.Tests.{eq-eqb, eqb-true, not-false}
 use lib.Dec.{eqb}
@@ -14,9 +14,8 @@ use Rattle.logic.specs.Expressions.{Expr, levels, code}
 use Rattle.logic.specs.Decks.{base}
 use Rattle.logic.proofs.Codes.{Below}
 use Rattle.decks.specs.declared.Answer.{Answer}
-use Rattle.decks.specs.declared.Answer.the-variants.{BadFrame, TooDeep}
 use Rattle.decks.specs.Answers.{Outcome, Got, Refused, refuse, afterwards}
-use Rattle.frames.specs.Hex.{hexDigit, pair, pairs, byteOf, number}
+use Rattle.frames.specs.Hex.{pair, pairs, number}
 use Rattle.frames.specs.Written.{setBytes, frame, stateFrames, nodePairs}
 use Rattle.frames.specs.Read.{Reading, Whole, Wrong, Deep, readExpr, wholeExpr, wholeNumber, kindOf, walk, countLine}
 use Rattle.frames.proofs.HexLaws.{byte-pair, pair-byte, hex-from-zero, pairs-from-zero, number-pairs, pairs-number}
@@ -43,9 +42,6 @@ module _ {A : Type 0} where
   pub afterwards-given : {B : Type 0} (P : B → Type 0) (r : Outcome A) (f : A → Outcome B) → ((x : A) → r ≡ Got x → Given P (f x)) → Given P (afterwards r f)
   afterwards-given P (Got x) f g = g x refl
   afterwards-given P (Refused a) f g = tt
-
-  pub refuse-pass : (t : Bool) (a : Answer) (r : Outcome A) → t ≡ false → refuse t a r ≡ r
-  refuse-pass t a r e = ap (λ (b : Bool). refuse b a r) e
 
 pub refused-got : {A : Type 0} {P : Type 0} {x : A} {a : Answer} → Refused a ≡ Got x → P
 refused-got e = let z : _≡_ {A = ℕ} 0 1 = cc in absurd (omega arith)
