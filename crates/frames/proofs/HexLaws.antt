@@ -110,16 +110,6 @@ pair-byte h l b =
 
 -- ---- numbers of k bytes
 
-pub length-pairs : (k n : ℕ) → length (pairs k n) ≡ 2 * k
-unfolding pairs
-length-pairs zero n = refl
-length-pairs (suc k) n = omega (arith, length-pairs k n)
-
-pub pairs-from-zero : (k n : ℕ) → Each (λ c. 48 ≤ c) (pairs k n)
-unfolding pairs
-pairs-from-zero zero n = tt
-pairs-from-zero (suc k) n = (hex-from-zero _, (hex-from-zero _, pairs-from-zero k n))
-
 number-next : (k m h l : ℕ) (cs : List ℕ) → byteOf h l < 256 → numberFrom (suc k) m (h ∷ l ∷ cs) ≡ numberFrom k (256 * m + byteOf h l) cs
 unfolding numberFrom
 number-next k m h l cs b = simp (lt-ltb (byteOf h l) 256 b, numberFrom)
@@ -175,6 +165,16 @@ pub pairs-number : (k : ℕ) (cs : List ℕ) (n : ℕ) → number k cs ≡ some 
 pairs-number k cs n e =
     let found = from-number k 0 cs n e in
     (found .0, omega (arith, ap (λ (q : ℕ). q * 256 ^ k + n % 256 ^ k) (found .1), div-add-mod' n (256 ^ k), mod-lt n (byte-power k)))
+
+pub length-pairs : (k n : ℕ) → length (pairs k n) ≡ 2 * k
+unfolding pairs
+length-pairs zero n = refl
+length-pairs (suc k) n = omega (arith, length-pairs k n)
+
+pub pairs-from-zero : (k n : ℕ) → Each (λ c. 48 ≤ c) (pairs k n)
+unfolding pairs
+pairs-from-zero zero n = tt
+pairs-from-zero (suc k) n = (hex-from-zero _, (hex-from-zero _, pairs-from-zero k n))
 
 -- Four bytes are two numbers of two.
 pub pairs-four : (p c : ℕ) → c < 65536 → pairs 4 (p * 65536 + c) ≡ pairs 2 p ++ pairs 2 c

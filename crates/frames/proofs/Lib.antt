@@ -1,4 +1,3 @@
-pub mod Cases
 pub mod HexLaws
 pub mod ExprLaws
 pub mod LineLaws
@@ -7,3 +6,4 @@ pub mod LeftLaws
 pub mod DeckLaws
 pub mod DeckTheorems
 pub mod ClaimTheorems
+pub mod Cases

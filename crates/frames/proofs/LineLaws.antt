@@ -153,11 +153,11 @@ whole-expr-got n cs e h = go (readExpr (base .levels) cs) refl
 
 -- 05 and 15: x frames before line x + 1.
 module _ {S : Type 0} (t n : ℕ) where
-  pub count-line-pairs : (x : ℕ) (s : S) → x < 65536 → x + 1 ≡ n → countLine t n (pairs 2 x) s ≡ Got s
-  unfolding countLine
-  count-line-pairs x s h e = simp (whole-number-pairs t n 2 x h, eq-eqb (x + 1) n e, countLine)
-
   pub count-line-given : (P : S → Type 0) (cs : List ℕ) (s : S) → ((x : ℕ) → cs ≡ pairs 2 x → x + 1 ≡ n → P s) → Given P (countLine t n cs s)
   unfolding countLine
   count-line-given P cs s f =
       afterwards-given P (wholeNumber t n 2 cs) _ (λ x e. refuse-not-given P (eqb (x + 1) n) _ (Got s) (λ q. f x (whole-number-got t n 2 cs x e .0) (eqb-true (x + 1) n q)))
+
+  pub count-line-pairs : (x : ℕ) (s : S) → x < 65536 → x + 1 ≡ n → countLine t n (pairs 2 x) s ≡ Got s
+  unfolding countLine
+  count-line-pairs x s h e = simp (whole-number-pairs t n 2 x h, eq-eqb (x + 1) n e, countLine)
