@@ -1,9 +1,8 @@
 -- Computed cases: document 01's first piece, and which refusal each text meets first.
 use mathlib.Core.Path.{_≡_, refl}
-use mathlib.Core.Bool.{Bool, false}
+use mathlib.Core.Bool.{false}
 use mathlib.Core.List.{List, [], _∷_, _++_}
 use Prim.Native.Nat.{ℕ, zero, suc}
-use Prim.Native.String.{String}
 use lib.Count.{trailingZeros}
 use lib.ListN.{replicate}
 use Rattle.lists.specs.Lists.{Each, ended, unended, fronted, stands, joined}
@@ -15,7 +14,7 @@ use Rattle.logic.proofs.Cases.{first}
 use Rattle.decks.specs.declared.Answer.the-variants.{Outside, Temporal, TooDeep, ManyInitials, ManyEquations, ManyNodes, NoEquation, BadFrame}
 use Rattle.decks.specs.Answers.{Outcome, Got, Refused}
 use Rattle.frames.specs.Hex.{hexDigit, pairs, digitOf, byteOf, numberFrom}
-use Rattle.frames.specs.Written.{codeByte, nodePairs, stateFrames, equationFrames, deckFrames, claimFrames}
+use Rattle.frames.specs.Written.{codeByte, nodePairs, stateFrames, equationFrames, deckFrames}
 use Rattle.frames.specs.Read.{signOf, readExpr, wholeExpr, wholeNumber, kindOf, walk, setLine, initLine, lastLeft, withEquation, equationLine, propertyLine, countLine, frameLine, deckLine, leftSet, complete, deckEnd, readDeck, sizesLine, stateLine, claimLine, claimEnd, readClaim}
 
 firstText : List ℕ

@@ -4,6 +4,9 @@ pub mod LineLaws
 pub mod SizeLaws
 pub mod LeftLaws
 pub mod DeckLaws
+pub mod DeckWritten
+pub mod DeckRead
 pub mod DeckTheorems
+pub mod ClaimLaws
 pub mod ClaimTheorems
 pub mod Cases
