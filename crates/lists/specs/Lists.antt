@@ -7,6 +7,11 @@ use Prim.Native.Nat.{ℕ, _+_, _-_}
 use lib.ListN.{length, take, drop, replicate}
 use lib.Dec.{eqb}
 
+-- The one where the test says so, else the other.
+abbrev pub chosen : {A : Type 0} → Bool → A → A → A
+chosen true x y = x
+chosen false x y = y
+
 -- P of every member.
 abbrev pub Each : {A : Type 0} → (A → Type 0) → List A → Type 0
 Each P [] = Unit

@@ -2,10 +2,10 @@
 use mathlib.Core.Path.{_≡_, refl}
 use mathlib.Core.Logic.{_⊎_, inl, inr, ⊎-elim, _↔_, Iff·rfl}
 use mathlib.Core.Bool.{Bool, true, false}
-use Prim.Native.Nat.{ℕ, zero, suc, _-_, _<_, _≤_, min, max}
+use Prim.Native.Nat.{ℕ, zero, suc, _+_, _-_, _<_, _≤_, min, max}
 use native.Mathlib.Omega.{arith}
 use native.Mathlib.Nat.{le-refl}
-use native.Mathlib.Decide.{decLt}
+use native.Mathlib.Decide.{decLt, le-ind}
 use Rattle.sets.specs.Sets.{bit}
 use Rattle.sets.proofs.Laws.{bit-lt}
 use Rattle.logic.specs.Expressions.{Expr, Const, Var, One, Two, Not, Next, Future, Always, And, Or, Until, Weak, Plain, value}
@@ -54,6 +54,38 @@ module _ (r : Run) (k : ℕ) where
   pub next-is : (a : Expr) → Holds r (One Next a) k ↔ Holds r a (suc k)
   next-is a = Iff·rfl
 
+  -- `(aU0)` never holds, also where a holds for ever.
+  pub until-never : (a : Expr) → Holds r (Two Until a (Const false)) k → ⊥
+  until-never a t = t .2
+
+  -- `(aUb)`: b now, or a now and `(aUb)` one place on.
+  pub until-unrolled : (a b : Expr) → Holds r (Two Until a b) k ↔ (Holds r b k ⊎ (Holds r a k × Holds r (Two Until a b) (suc k)))
+  until-unrolled a b = (λ t. there t (decLt k (t .0)), back)
+    where
+      there : (t : Holds r (Two Until a b) k) → Dec (k < t .0) → Holds r b k ⊎ (Holds r a k × Holds r (Two Until a b) (suc k))
+      there (i, l, t, f) (yes u) = inr (f k (le-refl k) (omega arith), (i, u, t, λ j x y. f j (omega arith) (omega arith)))
+      there (i, l, t, f) (no u) = let z : i ≡ k = omega arith in inl (rw z at t)
+
+      back : Holds r b k ⊎ (Holds r a k × Holds r (Two Until a b) (suc k)) → Holds r (Two Until a b) k
+      back (inl t) = (k, le-refl k, t, λ j x y. absurd (omega arith))
+      back (inr (t, (i, l, u, f))) = (i, omega arith, u, λ j x y. from t f j x y (decLt k j))
+        where
+          from : Holds r a k → ((j : ℕ) → suc k ≤ j → j < i → Holds r a j) → (j : ℕ) → k ≤ j → j < i → Dec (k < j) → Holds r a j
+          from t f j x y (yes w) = f j w y
+          from t f j x y (no w) = let z : k ≡ j = omega arith in rw z at t
+
+  -- `(aUb)` is the least that is so unrolled.
+  pub until-least : (a b : Expr) (Z : ℕ → Type 0) → ((i : ℕ) → Holds r b i → Z i) → ((i : ℕ) → Holds r a i → Z (suc i) → Z i) → Holds r (Two Until a b) k → Z k
+  until-least a b Z now on (i, l, t, f) = down (i - k) k (le-refl k) (omega arith)
+    where
+      down : (n j : ℕ) → k ≤ j → j + n ≡ i → Z j
+      down zero j x e = let z : i ≡ j = omega arith in now j (rw z at t)
+      down (suc n) j x e = on j (f j x (omega arith)) (down n (suc j) (omega arith) (omega arith))
+
+  -- `(aUb)` asks for b at some place.
+  pub until-comes : (a b : Expr) → Holds r (Two Until a b) k → Holds r (One Future b) k
+  until-comes a b t = (t .0, t .1, t .2)
+
   -- `Fa` is `(1Ua)`.
   pub future-is : (a : Expr) → Holds r (One Future a) k ↔ Holds r (Two Until (Const true) a) k
   future-is a = (λ t. (t .0, t .1, t .2, λ j x y. tt), λ t. (t .0, t .1, t .2))
@@ -66,29 +98,9 @@ module _ (r : Run) (k : ℕ) where
       back (t, f) i l (yes u) = f i u
       back (t, f) i l (no u) = let z : k ≡ i = omega arith in rw z at t
 
-  -- `(aUb)`: b now, or a now and `(aUb)` one place on.
-  pub until-unrolled : (a b : Expr) → Holds r (Two Until a b) k ↔ (Holds r b k ⊎ (Holds r a k × Holds r (Two Until a b) (suc k)))
-  until-unrolled a b = (λ t. there t (decLt k (t .0)), back)
-    where
-      there : (t : Holds r (Two Until a b) k) → Dec (k < t .0) → Holds r b k ⊎ (Holds r a k × Holds r (Two Until a b) (suc k))
-      there (i, l, t, f) (yes u) = inr (f k (le-refl k) u, (i, u, t, λ j x y. f j (omega arith) y))
-      there (i, l, t, f) (no u) = let z : i ≡ k = omega arith in inl (rw z at t)
-
-      back : Holds r b k ⊎ (Holds r a k × Holds r (Two Until a b) (suc k)) → Holds r (Two Until a b) k
-      back (inl t) = (k, le-refl k, t, λ j x y. absurd (omega arith))
-      back (inr (t, (i, l, u, f))) = (i, omega arith, u, λ j x y. from t f j x y (decLt k j))
-        where
-          from : Holds r a k → ((j : ℕ) → suc k ≤ j → j < i → Holds r a j) → (j : ℕ) → k ≤ j → j < i → Dec (k < j) → Holds r a j
-          from t f j x y (yes w) = f j w y
-          from t f j x y (no w) = let z : k ≡ j = omega arith in rw z at t
-
-  -- `(aUb)` asks for b at some place.
-  pub until-comes : (a b : Expr) → Holds r (Two Until a b) k → Holds r (One Future b) k
-  until-comes a b t = (t .0, t .1, t .2)
-
-  -- `(aU0)` never holds, also where a holds for ever.
-  pub until-never : (a : Expr) → Holds r (Two Until a (Const false)) k → ⊥
-  until-never a t = t .2
+  -- `Ga` is the most that is so unrolled.
+  pub always-most : (a : Expr) (Z : ℕ → Type 0) → ((i : ℕ) → Z i → Holds r a i × Z (suc i)) → Z k → Holds r (One Always a) k
+  always-most a Z on z i l = on i (le-ind Z z (λ j x y. on j y .1) i l) .0
 
   -- `(aWb)` is `(aUb)`, or `Ga`.
   pub weak-is : (a b : Expr) → Holds r (Two Weak a b) k ↔ (Holds r (Two Until a b) k ⊎ Holds r (One Always a) k)

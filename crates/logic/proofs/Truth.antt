@@ -1,7 +1,7 @@
 -- Truth depends on the variables written alone, repeats with the run, and is decided on every run that loops.
 use mathlib.Core.Path.{_≡_, sym, subst, ap, _∙_}
 use mathlib.Core.Logic.{_⊎_, inl, inr, ⊎-elim, _↔_, Iff·rfl, Iff·trans, by-cases, Dec·and, Dec·not, Dec·of-iff}
-use mathlib.Core.Bool.{Bool, true, false}
+use mathlib.Core.Bool.{true, false}
 use Prim.Native.Nat.{ℕ, zero, suc, _+_, _-_, _*_, _/_, _%_, _<_, _≤_, max}
 use native.Mathlib.Omega.{arith}
 use native.Mathlib.Nat.{le-refl, mod-lt, div-add-mod'}
@@ -95,7 +95,7 @@ later-often e r p c h k l (suc n) =
     in rw z (Iff·trans (same-later e r p c h (k + n * c) (omega arith)) (later-often e r p c h k l n))
 
 -- What is true at a place from k on is true no later, at a place below max k p + c, and the other way round.
-no-later : (e : Expr) (r : Run) (p c : ℕ) → 1 ≤ c → ((k : ℕ) → p ≤ k → r (k + c) ≡ r k) → (k i : ℕ) → k ≤ i → (j : ℕ) × (k ≤ j) × (j ≤ i) × (j < max k p + c) × (Holds r e i ↔ Holds r e j)
+pub no-later : (e : Expr) (r : Run) (p c : ℕ) → 1 ≤ c → ((k : ℕ) → p ≤ k → r (k + c) ≡ r k) → (k i : ℕ) → k ≤ i → (j : ℕ) × (k ≤ j) × (j ≤ i) × (j < max k p + c) × (Holds r e i ↔ Holds r e j)
 no-later e r p c one h k i l = go (decLt i (max k p))
   where
     go : Dec (i < max k p) → (j : ℕ) × (k ≤ j) × (j ≤ i) × (j < max k p + c) × (Holds r e i ↔ Holds r e j)

@@ -1,19 +1,17 @@
 -- Laws of sets and states as numbers, over any width or none.
 use mathlib.Core.Path.{_≡_, refl, sym, ap, ap₂, _∙_, subst}
 use mathlib.Core.Logic.{_⊎_, inl, inr, ⊎-elim, by-cases}
-use mathlib.Core.Bool.{Bool, true, false}
+use mathlib.Core.Bool.{true, false}
 use Prim.Native.Nat.{ℕ, zero, suc, _+_, _-_, _*_, _/_, _%_, _^_, _<_, _≤_, min, max}
 use native.Mathlib.Omega.{arith}
-use native.Mathlib.Nat.{div-eq-of-lt, zero-div, mod-lt, pow-suc, lt-of-lt-of-le, div-add-mod', min-le-left, max-add-min, add-comm}
-use native.Mathlib.Numerals.{add-one}
+use native.Mathlib.Nat.{div-eq-of-lt, zero-div, mod-lt, pow-suc, lt-of-lt-of-le, div-add-mod', mod-eq-of-lt, mul-mod-left, min-le-left, max-add-min, add-comm}
 use native.Mathlib.Decide.{decLt, ℕ-discrete}
 use borrow.Author.Tests.{eqb-true, eqb-false, eq-eqb, ne-eqb}
-use lib.Dec.{eqb}
 use lib.Arith.{bin-ind}
-use lib.Pow.{pow-pos, pow-lt, pow-mono, pow-add, shl-shr, shr-shr, split}
-use lib.Bits.{bitAnd, bitOr, and-step, or-step, and-shr, or-shr, and-le-l, and-le-r, and-comm, and-self, or-lt}
-use lib.Count.{ones, ones-step, ones-cat, trailingZeros, under}
-use Rattle.sets.specs.Sets.{bit, _∋_, has, _⊆_, only, union, meet, without, inside, size, Lowest}
+use lib.Pow.{pow-pos, pow-lt, pow-mono, pow-add, shl-shr, shr-shr}
+use lib.Bits.{and-step, or-step, and-shr, or-shr, and-le-l, and-le-r, and-comm, and-self, or-lt}
+use lib.Count.{ones, ones-step, ones-cat, trailingZeros, under, trailing-of-zero}
+use Rattle.sets.specs.Sets.{bit, _∋_, has, _⊆_, only, union, meet, without, inside, size, Lowest, width, lowestOf}
 
 -- ---- one digit
 
@@ -110,6 +108,9 @@ union-right s t i h = omega (arith, bit-union s t i, bit-lt s i, h)
 pub union-least : (s t u : ℕ) → s ⊆ u → t ⊆ u → union s t ⊆ u
 union-least s t u f g i h = ⊎-elim (λ z. g i (omega (arith, bit-union s t i, z, h))) (λ o. f i o) (bit-or-zero s i)
 
+pub union-cases : (s t i : ℕ) → union s t ∋ i → (s ∋ i) ⊎ (t ∋ i)
+union-cases s t i h = ⊎-elim (λ z. inr (omega (arith, bit-union s t i, z, h))) (λ o. inl o) (bit-or-zero s i)
+
 pub meet-left : (s t : ℕ) → meet s t ⊆ s
 meet-left s t i h = omega (arith, bit-meet s t i, bit-lt s i, bit-lt t i, h)
 
@@ -118,6 +119,29 @@ meet-right s t i h = omega (arith, bit-meet s t i, bit-lt s i, bit-lt t i, h)
 
 pub meet-most : (s t u : ℕ) → u ⊆ s → u ⊆ t → u ⊆ meet s t
 meet-most s t u f g i h = omega (arith, bit-meet s t i, f i h, g i h)
+
+-- ---- a state seen on a set
+
+pub bit-meet-in : (s c i : ℕ) → c ∋ i → bit (meet s c) i ≡ bit s i
+bit-meet-in s c i h = omega (arith, bit-meet s c i, bit-lt s i, h)
+
+pub bit-meet-out : (s c i : ℕ) → (c ∋ i → ⊥) → bit (meet s c) i ≡ 0
+bit-meet-out s c i n = omega (arith, bit-meet s c i, not-in c i n)
+
+-- Two states look alike on the set exactly when they agree on its variables.
+pub agree-meet : (s t c : ℕ) → ((i : ℕ) → c ∋ i → bit s i ≡ bit t i) → meet s c ≡ meet t c
+agree-meet s t c f =
+    ext
+    (meet s c)
+    (meet t c)
+    (λ i.
+    by-cases
+    (member-dec c i)
+    (λ m. bit-meet-in s c i m ∙ f i m ∙ sym (bit-meet-in t c i m))
+    (λ n. bit-meet-out s c i n ∙ sym (bit-meet-out t c i n)))
+
+pub meet-agree : (s t c i : ℕ) → meet s c ≡ meet t c → c ∋ i → bit s i ≡ bit t i
+meet-agree s t c i e m = sym (bit-meet-in s c i m) ∙ ap (λ (x : ℕ). bit x i) e ∙ bit-meet-in t c i m
 
 -- ---- one variable's set
 
@@ -232,6 +256,24 @@ without-lt k s t h = omega arith
 pub subset-lt : (k s t : ℕ) → s ⊆ t → t < 2 ^ k → s < 2 ^ k
 subset-lt k s t f h = omega (arith, subset-le s t f)
 
+-- A variable from the width on: not a member, and nothing of its own set is left below the width.
+pub has-high : (k s v : ℕ) → s < 2 ^ k → k ≤ v → false ≡ has s v
+has-high k s v h l = sym (has-false s v (λ m. omega (arith, member-lt k s v h m)))
+
+pub only-mod : (k v : ℕ) → v < k → only v % 2 ^ k ≡ only v
+only-mod k v l = mod-eq-of-lt (pow-lt l)
+
+pub only-within : (v s : ℕ) → s ≡ only v % 2 ^ width → v < width → s ≡ only v
+only-within v s e l = e ∙ only-mod width v l
+
+pub union-within : (s v t u : ℕ) → u ≡ union s t → t ≡ only v % 2 ^ width → v < width → u ≡ union s (only v)
+union-within s v t u e o l = e ∙ ap (union s) (only-within v t o l)
+
+pub only-mod-high : (k v : ℕ) → k ≤ v → 0 ≡ only v % 2 ^ k
+only-mod-high k v l =
+    let e : v ≡ v - k + k = omega arith in
+    sym (ap (λ (m : ℕ). only m % 2 ^ k) e ∙ ap (λ (m : ℕ). m % 2 ^ k) (pow-add 2 (v - k) k) ∙ mul-mod-left (2 ^ (v - k)) (2 ^ k))
+
 -- ---- sizes
 
 size-digits : (m h c : ℕ) → c < 2 → m ≡ h * 2 + c → size m ≡ c + size h
@@ -247,14 +289,15 @@ size-union-meet =
     (λ (s : ℕ). (t : ℕ) → size (union s t) + size (meet s t) ≡ size s + size t)
     (λ t. add-comm (size t) (size 0))
     (λ s ih t.
-      omega
-      (arith,
-        size-digits (union s t) (union (s / 2) (t / 2)) (max (s % 2) (t % 2)) (omega arith) (or-step s t),
-        size-digits (meet s t) (meet (s / 2) (t / 2)) (min (s % 2) (t % 2)) (omega arith) (and-step s t),
-        max-add-min (s % 2) (t % 2),
-        ones-step s,
-        ones-step t,
-        ih (t / 2)))
+    omega (
+      arith,
+      size-digits (union s t) (union (s / 2) (t / 2)) (max (s % 2) (t % 2)) (omega arith) (or-step s t),
+      size-digits (meet s t) (meet (s / 2) (t / 2)) (min (s % 2) (t % 2)) (omega arith) (and-step s t),
+      max-add-min (s % 2) (t % 2),
+      ones-step s,
+      ones-step t,
+      ih (t / 2),
+    ))
 
 pub size-zero : size 0 ≡ 0
 unfolding ones
@@ -267,12 +310,11 @@ pub size-only : (v : ℕ) → size (only v) ≡ 1
 unfolding ones
 size-only v = let e : 2 ^ v ≡ 1 * 2 ^ v + 0 = omega arith in ap size e ∙ ones-cat v 1 0 (pow-pos v)
 
-pub meet-only : (s v : ℕ) → (s ∋ v → ⊥) → meet s (only v) ≡ 0
-meet-only s v n = sym (all-zero (meet s (only v)) (λ i. not-in (meet s (only v)) i (λ m. n (subst (λ (j : ℕ). s ∋ j) (only-bit v i (meet-right s (only v) i m)) (meet-left s (only v) i m)))))
+pub meet-member : (s v : ℕ) → s ∋ v → meet s (only v) ≡ only v
+meet-member s v h = and-comm s (only v) ∙ subset-meet (only v) s (only-least v s h)
 
--- A new variable.
-pub size-new : (s v : ℕ) → (s ∋ v → ⊥) → size (union s (only v)) ≡ size s + 1
-size-new s v n = omega (arith, size-union-meet s (only v), ap size (meet-only s v n), size-zero, size-only v)
+pub meet-none : (s v : ℕ) → (s ∋ v → ⊥) → meet s (only v) ≡ 0
+meet-none s v n = sym (all-zero (meet s (only v)) (λ i. not-in (meet s (only v)) i (λ m. n (subst (λ (j : ℕ). s ∋ j) (only-bit v i (meet-right s (only v) i m)) (meet-left s (only v) i m)))))
 
 -- A set is what it has without t and what it shares with t.
 pub without-meet-union : (s t : ℕ) → union (without s t) (meet s t) ≡ s
@@ -288,6 +330,13 @@ without-meet s t =
 
 pub size-without : (s t : ℕ) → size (without s t) + size (meet s t) ≡ size s
 size-without s t = omega (arith, size-union-meet (without s t) (meet s t), ap size (without-meet-union s t), ap size (without-meet s t), size-zero)
+
+-- A new variable is one more, one taken out is one less.
+pub size-new : (s v : ℕ) → (s ∋ v → ⊥) → size (union s (only v)) ≡ size s + 1
+size-new s v n = omega (arith, size-union-meet s (only v), ap size (meet-none s v n), size-zero, size-only v)
+
+pub size-less : (s v : ℕ) → s ∋ v → size (without s (only v)) + 1 ≡ size s
+size-less s v h = omega (arith, size-without s (only v), ap size (meet-member s v h), size-only v)
 
 pub size-subset : (s t : ℕ) → s ⊆ t → size s ≤ size t
 size-subset s t f = omega (arith, size-without t s, ap size (and-comm t s ∙ subset-meet s t f))
@@ -328,17 +377,27 @@ trailing-lowest (suc k) s p h =
     by-cases
     (ℕ-discrete (s % 2) 0)
     (λ e.
-      subst (Lowest s) (sym (trailing-even k s e)) (lowest-even s (trailingZeros k (s / 2)) e (trailing-lowest k (s / 2) (omega arith) (omega (arith, pow-suc 2 k)))))
+    subst (Lowest s) (sym (trailing-even k s e)) (lowest-even s (trailingZeros k (s / 2)) e (trailing-lowest k (s / 2) (omega arith) (omega (arith, pow-suc 2 k)))))
     (λ n. let e : s % 2 ≡ 1 = omega arith in subst (Lowest s) (sym (trailing-odd k s e)) (lowest-odd s e))
 
-pub trailing-lt : (k s : ℕ) → 0 < s → s < 2 ^ k → trailingZeros k s < k
-trailing-lt k s p h = member-lt k s (trailingZeros k s) h (trailing-lowest k s p h .0)
+-- What is answered for the lowest variable of a word is it, and is below the width; for the empty set it is the width.
+pub lowest-found : (s v : ℕ) → v ≡ lowestOf s → (s ≡ 0 → ⊥) → s < 2 ^ width → Lowest s v
+lowest-found s v e n h = subst (Lowest s) (sym e) (trailing-lowest width s (omega arith) h)
+
+pub lowest-lt : (s v : ℕ) → v ≡ lowestOf s → (s ≡ 0 → ⊥) → s < 2 ^ width → v < width
+lowest-lt s v e n h = member-lt width s v h (lowest-found s v e n h .0)
+
+pub lowest-none : lowestOf 0 ≡ width
+lowest-none = trailing-of-zero width
 
 pub lowest-some : (s : ℕ) → 0 < s → (v : ℕ) × Lowest s v
 lowest-some s p = (trailingZeros s s, trailing-lowest s s p (lt-pow s))
 
 pub without-only : (s v : ℕ) → s ∋ v → without s (only v) ≡ s - only v
-without-only s v h = ap (λ (m : ℕ). s - m) (and-comm s (only v) ∙ subset-meet (only v) s (only-least v s h))
+without-only s v h = ap (λ (m : ℕ). s - m) (meet-member s v h)
+
+pub without-falls : (s v : ℕ) → s ∋ v → without s (only v) < s
+without-falls s v h = omega (arith, without-only s v h, subset-le (only v) s (only-least v s h), pow-pos v)
 
 meet-less-odd : (s : ℕ) → s % 2 ≡ 1 → meet s (s - 1) ≡ s - 1
 meet-less-odd s e =

@@ -4,7 +4,7 @@ use mathlib.Core.Path.{_≡_}
 use mathlib.Core.Bool.{Bool}
 use Prim.Native.Nat.{ℕ, _-_, _/_, _%_, _^_, _<_}
 use lib.Bits.{bitAnd, bitOr}
-use lib.Count.{ones}
+use lib.Count.{ones, trailingZeros}
 use lib.Dec.{eqb}
 
 -- Digit i of s.
@@ -37,10 +37,6 @@ union s t = bitOr s t
 abbrev pub meet : ℕ → ℕ → ℕ
 meet s t = bitAnd s t
 
--- Whether every variable of s is in t.
-abbrev pub inside : ℕ → ℕ → Bool
-inside s t = eqb (meet s t) s
-
 -- The variables of s that are not in t.
 abbrev pub without : ℕ → ℕ → ℕ
 without s t = s - bitAnd s t
@@ -52,3 +48,11 @@ size s = ones s
 -- i is the lowest variable of s.
 abbrev pub Lowest : ℕ → ℕ → Type 0
 Lowest s i = (s ∋ i) × ((j : ℕ) → j < i → s ∋ j → ⊥)
+
+-- The variables that a word has room for are those below this.
+abbrev pub width : ℕ
+width = 64
+
+-- The lowest variable of s below the width; the width where there is none.
+abbrev pub lowestOf : ℕ → ℕ
+lowestOf s = trailingZeros width s

@@ -1,0 +1,5 @@
+pub mod Card
+pub mod Statement
+pub mod Grammar
+pub mod Typed
+pub mod Read
