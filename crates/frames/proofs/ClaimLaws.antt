@@ -2,13 +2,13 @@
 use mathlib.Core.Path.{_≡_, refl, sym, ap, ap₂, _∙_, subst}
 use mathlib.Core.Logic.{inl}
 use mathlib.Core.Bool.{not}
-use mathlib.Core.List.{List, [], _∷_, _++_, append-assoc, append-nil}
+use mathlib.Core.List.{List, [], _∷_, _++_, append-assoc, append-nil, map-append}
 use Prim.Native.Nat.{ℕ, suc, _+_, _*_, _/_, _%_, _^_, _<_, _≤_}
 use native.Mathlib.Omega.{arith}
 use native.Mathlib.Decide.{decLt}
 use borrow.Author.Tests.{lt-ltb, le-ltb, ltb-false, eqb-true, eqb-false, ne-eqb}
 use lib.Dec.{ltb, eqb}
-use lib.ListN.{length, drop, length-append}
+use lib.ListN.{length, drop, length-append, length-map}
 use Rattle.lists.specs.Lists.{Each, _among_, joined, ended, unended}
 use Rattle.lists.proofs.Laws.{each-at, each-append, among-right, joined-ended}
 use Rattle.sets.specs.Sets.{_⊆_, inside}
@@ -22,7 +22,6 @@ use Rattle.frames.specs.Written.{setBytes, claimKind, stateKind, claimCo
 use Rattle.frames.specs.Read.{ClaimSofar, ClaimDue, StatesDue, ClaimWhole, wholeNumber, kindOf, walk, countLine, sizesLine, stateLine, claimLine, claimEnd, readClaim}
 use Rattle.frames.proofs.HexLaws.{pairs-from-zero, pairs-four}
 use Rattle.frames.proofs.LineLaws.{Given, got-given, refuse-given, refuse-not-given, afterwards-given, walk-got, walk-keeps, line, kind-line, line-kind, frame-joined, stateLines, state-frames-joined, line-free, state-lines-free, whole-number-pairs, whole-number-got, count-line-pairs, count-line-given}
-use Rattle.frames.proofs.DeckLaws.{map-append, length-map}
 
 -- ---- the lines of a claim
 
@@ -179,7 +178,7 @@ module _ (vars : ℕ) where
   count-kept : (past : List (List ℕ)) (l cs : List ℕ) (m : Claim) → l ≡ line claimCountKind cs → past ≡ headLines m → Begun m → m .p + m .c ≤ length (m .states) → Given (Kept (past ++ l ∷ [])) (countLine 2 (suc (length past)) cs (ClaimWhole m))
   count-kept past l cs m e h b all =
       count-line-given 2 (suc (length past)) (Kept (past ++ l ∷ [])) cs (ClaimWhole m) (λ x c k.
-      let before : x ≡ length (m .states) + 1 = omega (arith, ap length h, length-map (λ (s : ℕ). line stateKind (pairs setBytes s)) (m .states)) in (
+      let before : x ≡ length (m .states) + 1 = omega (arith, ap length h, length-map (m .states) (λ (s : ℕ). line stateKind (pairs setBytes s))) in (
         ap₂ (λ (ls : List (List ℕ)) (r : List ℕ). ls ++ r ∷ []) h (e ∙ ap (line claimCountKind) (c ∙ ap (pairs 2) before)),
         b,
         omega (arith, b .room),

@@ -5,7 +5,7 @@ use mathlib.Core.Bool.{Bool, true, false}
 use mathlib.Core.List.{List, [], _∷_, _++_, map, append-assoc, append-nil}
 use Prim.Native.Nat.{ℕ, _+_, _≤_}
 use native.Mathlib.Omega.{arith}
-use lib.ListN.{length, length-append}
+use lib.ListN.{length, length-append, length-map}
 use Rattle.lists.specs.Lists.{Each, _among_, Distinct, joined}
 use Rattle.lists.proofs.Laws.{each-append, among-right}
 use Rattle.logic.specs.Expressions.{Expr, Const, Var, One, Two, Not, Next, Future, Always, And, Or, Until, Weak, Plain, temporal, code}
@@ -18,14 +18,6 @@ use Rattle.frames.proofs.ExprLaws.{node-pairs-from-zero}
 use Rattle.frames.proofs.LineLaws.{line, frame-joined, stateLines, state-frames-joined, line-free, state-lines-free}
 
 -- general:
-
-pub map-append : {A B : Type 0} (f : A → B) (xs ys : List A) → map f (xs ++ ys) ≡ map f xs ++ map f ys
-map-append f [] ys = refl
-map-append f (x ∷ xs) ys = ap (λ l. f x ∷ l) (map-append f xs ys)
-
-pub length-map : {A B : Type 0} (f : A → B) (xs : List A) → length (map f xs) ≡ length xs
-length-map f [] = refl
-length-map f (x ∷ xs) = omega (arith, length-map f xs)
 
 pub distinct-before : (xs : List ℕ) (x : ℕ) (ys : List ℕ) → Distinct (xs ++ x ∷ ys) → x among xs → ⊥
 distinct-before (y ∷ xs) x ys d (inl e) = d .0 (among-right xs (x ∷ ys) y (inl (sym e)))
@@ -163,6 +155,6 @@ length-head-lines d =
     omega (
       arith,
       length-append (stateLines initKind (d .inits)) (equationLines (d .equations)),
-      length-map (λ (s : ℕ). line initKind (pairs setBytes s)) (d .inits),
-      length-map (λ (q : Equation). line equationKind (equationContent q)) (d .equations),
+      length-map (d .inits) (λ (s : ℕ). line initKind (pairs setBytes s)),
+      length-map (d .equations) (λ (q : Equation). line equationKind (equationContent q)),
     )

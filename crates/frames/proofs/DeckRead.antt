@@ -2,7 +2,7 @@
 use mathlib.Core.Path.{_≡_, refl, sym, ap, ap₂, _∙_, subst}
 use mathlib.Core.Logic.{_⊎_, inl, inr, ⊎-elim}
 use mathlib.Core.Bool.{Bool, true, false, _||_}
-use mathlib.Core.List.{List, [], _∷_, _++_, append-assoc, append-nil}
+use mathlib.Core.List.{List, [], _∷_, _++_, append-assoc, append-nil, map-append}
 use Prim.Native.Nat.{ℕ, suc, _+_, _^_, _<_, _≤_}
 use native.Mathlib.Omega.{arith}
 use borrow.Author.Tests.{ltb-true, ltb-false, eqb-true}
@@ -21,7 +21,7 @@ use Rattle.frames.specs.Read.{Due, DueSet, DueInit, DueAny, DueEquation,
 use Rattle.frames.proofs.HexLaws.{pair-byte}
 use Rattle.frames.proofs.LineLaws.{Given, got-given, refuse-given, refuse-not-given, afterwards-given, walk-keeps, line, line-kind, stateLines, whole-number-got, whole-expr-got, count-line-given}
 use Rattle.frames.proofs.LeftLaws.{all-complete}
-use Rattle.frames.proofs.DeckLaws.{temporal-plain, total-append, rising-snoc, equationContent, equationLines, headLines, propertyOf, countContent, countOf, deckLines, deck-frames-joined, length-head-lines, map-append}
+use Rattle.frames.proofs.DeckLaws.{temporal-plain, total-append, rising-snoc, equationContent, equationLines, headLines, propertyOf, countContent, countOf, deckLines, deck-frames-joined, length-head-lines}
 use Rattle.frames.proofs.DeckWritten.{sofar}
 
 -- What holds of the deck in hand from 01 on.

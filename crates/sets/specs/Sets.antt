@@ -41,6 +41,10 @@ meet s t = bitAnd s t
 abbrev pub without : ℕ → ℕ → ℕ
 without s t = s - bitAnd s t
 
+-- Whether every variable of s is in t.
+abbrev pub inside : ℕ → ℕ → Bool
+inside s t = eqb (meet s t) s
+
 -- The number of variables in s: the ones among its digits.
 abbrev pub size : ℕ → ℕ
 size s = ones s
