@@ -86,14 +86,16 @@ module _ (vars : ℕ) (small : vars < 2 ^ base .variables) (m : Claim) (ok : Siz
         le-ltb (base .states) (m .p + m .c) (ok .most),
       )
 
-  state-read : (n : ℕ) (past : List ℕ) (s : ℕ) (rest : List ℕ) → past ++ s ∷ rest ≡ m .states → claimLine vars n (line stateKind (pairs setBytes s)) (StatesDue (with m past)) ≡ Got (StatesDue (with m (past ++ s ∷ [])))
+  state-read : (n : ℕ) (past : List ℕ) (s : ℕ) (rest : List ℕ)
+      → past ++ s ∷ rest ≡ m .states
+      → claimLine vars n (line stateKind (pairs setBytes s)) (StatesDue (with m past)) ≡ Got (StatesDue (with m (past ++ s ∷ [])))
   unfolding claimLine stateLine
   state-read n past s rest e =
       let inner : s ⊆ vars = each-at (λ t. t ⊆ vars) (m .states) s within (subst (λ (l : List ℕ). s among l) e (among-right past (s ∷ rest) s (inl refl))) in
       simp (
         lt-ltb (length past) (m .p + m .c) (omega (arith, ap length e, length-append past (s ∷ rest), ok .all)),
         kind-line stateKind (pairs setBytes s) (omega arith),
-        whole-number-pairs 2 n setBytes s (subset-lt 64 s vars inner small),
+        whole-number-pairs 2 n setBytes s (subset-lt (base .variables) s vars inner small),
         inside-true s vars inner,
         claimLine,
       )
@@ -108,7 +110,10 @@ module _ (vars : ℕ) (small : vars < 2 ^ base .variables) (m : Claim) (ok : Siz
         claimLine,
       )
 
-  states-walk : (ss past : List ℕ) (n : ℕ) → past ++ ss ≡ m .states → n ≡ length past + 2 → walk (claimLine vars) n (stateLines stateKind ss ++ (countOf m ∷ [])) (StatesDue (with m past)) ≡ Got (ClaimWhole m)
+  states-walk : (ss past : List ℕ) (n : ℕ)
+      → past ++ ss ≡ m .states
+      → n ≡ length past + 2
+      → walk (claimLine vars) n (stateLines stateKind ss ++ (countOf m ∷ [])) (StatesDue (with m past)) ≡ Got (ClaimWhole m)
   unfolding walk
   states-walk [] past n e i =
       let all : past ≡ m .states = sym (append-nil past) ∙ e in
@@ -159,7 +164,12 @@ module _ (vars : ℕ) where
         },
       ))))
 
-  state-kept : (past : List (List ℕ)) (n : ℕ) (l cs : List ℕ) (m : Claim) → l ≡ line stateKind cs → past ≡ headLines m → Begun m → length (m .states) < m .p + m .c → Given (Kept (past ++ l ∷ [])) (stateLine vars n cs m)
+  state-kept : (past : List (List ℕ)) (n : ℕ) (l cs : List ℕ) (m : Claim)
+      → l ≡ line stateKind cs
+      → past ≡ headLines m
+      → Begun m
+      → length (m .states) < m .p + m .c
+      → Given (Kept (past ++ l ∷ [])) (stateLine vars n cs m)
   unfolding stateLine
   state-kept past n l cs m e h b less =
       let K : ClaimSofar → Type 0 = Kept (past ++ l ∷ []) in
@@ -175,7 +185,12 @@ module _ (vars : ℕ) where
         },
       )))
 
-  count-kept : (past : List (List ℕ)) (l cs : List ℕ) (m : Claim) → l ≡ line claimCountKind cs → past ≡ headLines m → Begun m → m .p + m .c ≤ length (m .states) → Given (Kept (past ++ l ∷ [])) (countLine 2 (suc (length past)) cs (ClaimWhole m))
+  count-kept : (past : List (List ℕ)) (l cs : List ℕ) (m : Claim)
+      → l ≡ line claimCountKind cs
+      → past ≡ headLines m
+      → Begun m
+      → m .p + m .c ≤ length (m .states)
+      → Given (Kept (past ++ l ∷ [])) (countLine 2 (suc (length past)) cs (ClaimWhole m))
   count-kept past l cs m e h b all =
       count-line-given 2 (suc (length past)) (Kept (past ++ l ∷ [])) cs (ClaimWhole m) (λ x c k.
       let before : x ≡ length (m .states) + 1 = omega (arith, ap length h, length-map (m .states) (λ (s : ℕ). line stateKind (pairs setBytes s))) in (
@@ -184,7 +199,10 @@ module _ (vars : ℕ) where
         omega (arith, b .room),
       ))
 
-  of-kind : (K : ClaimSofar → Type 0) (k n : ℕ) (l : List ℕ) (r : Outcome ClaimSofar) → k < 256 → (l ≡ line k (drop 2 l) → Given K r) → Given K (refuse (not (eqb (kindOf l) k)) (BadFrame 2 n) r)
+  of-kind : (K : ClaimSofar → Type 0) (k n : ℕ) (l : List ℕ) (r : Outcome ClaimSofar)
+      → k < 256
+      → (l ≡ line k (drop 2 l) → Given K r)
+      → Given K (refuse (not (eqb (kindOf l) k)) (BadFrame 2 n) r)
   of-kind K k n l r h f = refuse-not-given K (eqb (kindOf l) k) (BadFrame 2 n) r (λ e. f (line-kind l k (eqb-true (kindOf l) k e) h))
 
   -- Every line keeps what the lines before it kept.

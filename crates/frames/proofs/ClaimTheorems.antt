@@ -19,7 +19,11 @@ use Rattle.frames.proofs.SizeLaws.{claim-within-text}
 use Rattle.frames.proofs.ClaimLaws.{claimLines, claim-frames-joined, claim-lines-free, claim-walk, Returns, claim-given}
 
 -- A written claim within the variables reads as that claim.
-pub claim-written-read : (vars : ℕ) (m : Claim) → vars < 2 ^ base .variables → Sized base m → Each (λ (s : ℕ). s ⊆ vars) (m .states) → readClaim vars (claimFrames m) ≡ Got m
+pub claim-written-read : (vars : ℕ) (m : Claim)
+    → vars < 2 ^ base .variables
+    → Sized base m
+    → Each (λ (s : ℕ). s ⊆ vars) (m .states)
+    → readClaim vars (claimFrames m) ≡ Got m
 unfolding readClaim claimEnd
 claim-written-read vars m small ok within =
     let lines : ended (claimFrames m) ≡ claimLines m = ap ended (claim-frames-joined m) ∙ ended-joined (claimLines m) (claim-lines-free m) in
@@ -40,7 +44,9 @@ unfolding readClaim
 claim-too-long vars t h = simp (lt-ltb (base .text) (length t) h, readClaim)
 
 -- A text reads as a claim exactly when it is the claim's frames and the claim keeps its sizes and the variables.
-pub claim-read-exactly-when : (vars : ℕ) (t : List ℕ) (m : Claim) → vars < 2 ^ base .variables → (readClaim vars t ≡ Got m) ↔ ((t ≡ claimFrames m) × Sized base m × Each (λ (s : ℕ). s ⊆ vars) (m .states))
+pub claim-read-exactly-when : (vars : ℕ) (t : List ℕ) (m : Claim)
+    → vars < 2 ^ base .variables
+    → (readClaim vars t ≡ Got m) ↔ ((t ≡ claimFrames m) × Sized base m × Each (λ (s : ℕ). s ⊆ vars) (m .states))
 claim-read-exactly-when vars t m small = (
   got-given (Returns vars t) (readClaim vars t) m (claim-given vars t),
   λ r. ap (readClaim vars) (r .0) ∙ claim-written-read vars m small (r .1) (r .2),

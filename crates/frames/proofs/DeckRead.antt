@@ -90,7 +90,9 @@ set-kept n l cs d e =
     ))
 
 -- The lines with one initial state more, where there is no equation yet.
-init-lines : (ss : List ℕ) (s : ℕ) (qs : List Equation) → qs ≡ [] → stateLines initKind (ss ++ s ∷ []) ++ equationLines qs ≡ (stateLines initKind ss ++ equationLines qs) ++ (line initKind (pairs setBytes s) ∷ [])
+init-lines : (ss : List ℕ) (s : ℕ) (qs : List Equation)
+    → qs ≡ []
+    → stateLines initKind (ss ++ s ∷ []) ++ equationLines qs ≡ (stateLines initKind ss ++ equationLines qs) ++ (line initKind (pairs setBytes s) ∷ [])
 init-lines ss s qs e =
     rw e (append-nil (stateLines initKind (ss ++ s ∷ [])) ∙ map-append (λ (x : ℕ). line initKind (pairs setBytes x)) ss (s ∷ []) ∙ ap (λ (ls : List (List ℕ)). ls ++ (line initKind (pairs setBytes s) ∷ [])) (sym (append-nil (stateLines initKind ss))))
 
@@ -115,7 +117,12 @@ init-added past l cs d s e h b z c new within most = (
   ),
 )
 
-init-kept : (past : List (List ℕ)) (n : ℕ) (l cs : List ℕ) (d : Deck) → l ≡ line initKind cs → past ≡ headLines d → Begun d → d .equations ≡ [] → Given (Kept (past ++ l ∷ [])) (initLine n cs d)
+init-kept : (past : List (List ℕ)) (n : ℕ) (l cs : List ℕ) (d : Deck)
+    → l ≡ line initKind cs
+    → past ≡ headLines d
+    → Begun d
+    → d .equations ≡ []
+    → Given (Kept (past ++ l ∷ [])) (initLine n cs d)
 unfolding initLine
 init-kept past n l cs d e h b z =
     let K : Sofar → Type 0 = Kept (past ++ l ∷ []) in
@@ -139,12 +146,21 @@ init-kept past n l cs d e h b z =
     (ltb-false (base .initials) (length (d .inits) + 1) most)))))
 
 -- The lines with one equation more.
-equation-lines : (ss : List ℕ) (qs : List Equation) (q : Equation) → stateLines initKind ss ++ equationLines (qs ++ q ∷ []) ≡ (stateLines initKind ss ++ equationLines qs) ++ (line equationKind (equationContent q) ∷ [])
+equation-lines : (ss : List ℕ) (qs : List Equation) (q : Equation)
+    → stateLines initKind ss ++ equationLines (qs ++ q ∷ []) ≡ (stateLines initKind ss ++ equationLines qs) ++ (line equationKind (equationContent q) ∷ [])
 equation-lines ss qs q =
     ap (λ (ls : List (List ℕ)). stateLines initKind ss ++ ls) (map-append (λ (r : Equation). line equationKind (equationContent r)) qs (q ∷ []))
     ∙ sym (append-assoc (stateLines initKind ss) (equationLines qs) (line equationKind (equationContent q) ∷ []))
 
-with-equation-kept : (past : List (List ℕ)) (n : ℕ) (l cs : List ℕ) (d : Deck) (q : Equation) → l ≡ line equationKind cs → cs ≡ equationContent q → past ≡ headLines d → Begun d → 1 ≤ length (d .inits) → lastLeft (d .equations) ≤ q .left → levels (q .right) ≤ base .levels → Given (Kept (past ++ l ∷ [])) (withEquation n d q)
+with-equation-kept : (past : List (List ℕ)) (n : ℕ) (l cs : List ℕ) (d : Deck) (q : Equation)
+    → l ≡ line equationKind cs
+    → cs ≡ equationContent q
+    → past ≡ headLines d
+    → Begun d
+    → 1 ≤ length (d .inits)
+    → lastLeft (d .equations) ≤ q .left
+    → levels (q .right) ≤ base .levels
+    → Given (Kept (past ++ l ∷ [])) (withEquation n d q)
 unfolding withEquation totalNodes
 with-equation-kept past n l cs d q e c h b i rises shallow =
     let K : Sofar → Type 0 = Kept (past ++ l ∷ []) in
@@ -179,7 +195,12 @@ with-equation-kept past n l cs d q e c h b i rises shallow =
       ),
     ))))))
 
-equation-kept : (past : List (List ℕ)) (n : ℕ) (l cs : List ℕ) (d : Deck) → l ≡ line equationKind cs → past ≡ headLines d → Begun d → 1 ≤ length (d .inits) → Given (Kept (past ++ l ∷ [])) (equationLine n cs d)
+equation-kept : (past : List (List ℕ)) (n : ℕ) (l cs : List ℕ) (d : Deck)
+    → l ≡ line equationKind cs
+    → past ≡ headLines d
+    → Begun d
+    → 1 ≤ length (d .inits)
+    → Given (Kept (past ++ l ∷ [])) (equationLine n cs d)
 unfolding equationLine
 equation-kept past n l [] d e h b i = tt
 equation-kept past n l (x ∷ []) d e h b i = tt
@@ -188,7 +209,7 @@ equation-kept past n l (x ∷ y ∷ cs) d e h b i =
     refuse-not-given K (ltb (byteOf x y) (base .variables)) _ _ (λ low.
     refuse-given K (ltb (byteOf x y) (lastLeft (d .equations))) _ _ (λ rises.
     afterwards-given K (wholeExpr n cs) _ (λ a w.
-    let below : byteOf x y < 64 = ltb-true (byteOf x y) (base .variables) low in
+    let below : byteOf x y < base .variables = ltb-true (byteOf x y) (base .variables) low in
     let whole = whole-expr-got n cs a w in
     with-equation-kept
     past
@@ -205,7 +226,12 @@ equation-kept past n l (x ∷ y ∷ cs) d e h b i =
     (ltb-false (byteOf x y) (lastLeft (d .equations)) rises)
     (whole .1))))
 
-property-kept : (past : List (List ℕ)) (n : ℕ) (l cs : List ℕ) (d : Deck) → l ≡ line propertyKind cs → past ≡ headLines d → Begun d → 1 ≤ length (d .inits) → Given (Kept (past ++ l ∷ [])) (propertyLine n cs d)
+property-kept : (past : List (List ℕ)) (n : ℕ) (l cs : List ℕ) (d : Deck)
+    → l ≡ line propertyKind cs
+    → past ≡ headLines d
+    → Begun d
+    → 1 ≤ length (d .inits)
+    → Given (Kept (past ++ l ∷ [])) (propertyLine n cs d)
 unfolding propertyLine
 property-kept past n l cs d e h b i =
     let K : Sofar → Type 0 = Kept (past ++ l ∷ []) in
@@ -233,7 +259,11 @@ property-kept past n l cs d e h b i =
       },
     ))))
 
-count-kept : (past : List (List ℕ)) (l cs : List ℕ) (d : Deck) → l ≡ line countKind cs → past ≡ headLines d ++ (propertyOf d ∷ []) → Stated d → Given (Kept (past ++ l ∷ [])) (countLine 1 (suc (length past)) cs (sofar DueNone d))
+count-kept : (past : List (List ℕ)) (l cs : List ℕ) (d : Deck)
+    → l ≡ line countKind cs
+    → past ≡ headLines d ++ (propertyOf d ∷ [])
+    → Stated d
+    → Given (Kept (past ++ l ∷ [])) (countLine 1 (suc (length past)) cs (sofar DueNone d))
 count-kept past l cs d e h b =
     count-line-given 1 (suc (length past)) (Kept (past ++ l ∷ [])) cs (sofar DueNone d) (λ x c m.
     let before : x ≡ length (d .inits) + length (d .equations) + 2 =
@@ -251,7 +281,11 @@ module _ (past : List (List ℕ)) (l : List ℕ) where
   abbrev kept : Outcome Sofar → Type 0
   kept = Given (Kept (past ++ l ∷ []))
 
-  of-kind : (k : ℕ) (d : Deck) → k < 256 → (l ≡ line k (drop 2 l) → kept (frameLine k (suc (length past)) (drop 2 l) d)) → eqb (kindOf l) k ≡ true → kept (frameLine (kindOf l) (suc (length past)) (drop 2 l) d)
+  of-kind : (k : ℕ) (d : Deck)
+      → k < 256
+      → (l ≡ line k (drop 2 l) → kept (frameLine k (suc (length past)) (drop 2 l) d))
+      → eqb (kindOf l) k ≡ true
+      → kept (frameLine (kindOf l) (suc (length past)) (drop 2 l) d)
   of-kind k d h f e = let is = eqb-true (kindOf l) k e in rw is (f (line-kind l k is h))
 
   of-due : (u : Due) (d : Deck) → Kept past (sofar u d) → permits u (kindOf l) ≡ true → kept (frameLine (kindOf l) (suc (length past)) (drop 2 l) d)

@@ -43,7 +43,10 @@ module _ (d : Deck) (ok : Accepted base d) where
   unfolding frameLine setLine
   set-read n = frame-due setKind n (pairs setBytes (d .vars)) begun (omega arith) refl ∙ simp (whole-number-pairs 1 n setBytes (d .vars) (ok .vars-in))
 
-  init-read : (n : ℕ) (u : Due) (past : List ℕ) (s : ℕ) (rest : List ℕ) → permits u initKind ≡ true → past ++ s ∷ rest ≡ d .inits → deckLine n (line initKind (pairs setBytes s)) (sofar u (partly past [])) ≡ Got (sofar DueAny (partly (past ++ s ∷ []) []))
+  init-read : (n : ℕ) (u : Due) (past : List ℕ) (s : ℕ) (rest : List ℕ)
+      → permits u initKind ≡ true
+      → past ++ s ∷ rest ≡ d .inits
+      → deckLine n (line initKind (pairs setBytes s)) (sofar u (partly past [])) ≡ Got (sofar DueAny (partly (past ++ s ∷ []) []))
   unfolding frameLine initLine
   init-read n u past s rest p e =
       let within : s ⊆ d .vars = each-at (λ t. t ⊆ d .vars) (d .inits) s (ok .inits-in) (subst (λ (l : List ℕ). s among l) e (among-right past (s ∷ rest) s (inl refl))) in
@@ -51,24 +54,27 @@ module _ (d : Deck) (ok : Accepted base d) where
       let most : length past + 1 ≤ base .initials = omega (arith, ap length e, length-append past (s ∷ rest), ok .inits-most) in
       frame-due initKind n (pairs setBytes s) (sofar u (partly past [])) (omega arith) p
       ∙ simp (
-        whole-number-pairs 1 n setBytes s (subset-lt 64 s (d .vars) within (ok .vars-in)),
+        whole-number-pairs 1 n setBytes s (subset-lt (base .variables) s (d .vars) within (ok .vars-in)),
         stands-false s past new,
         inside-true s (d .vars) within,
         le-ltb (base .initials) (length past + 1) most,
       )
 
-  equation-read : (n : ℕ) (u : Due) (past : List Equation) (q : Equation) (rest : List Equation) → permits u equationKind ≡ true → past ++ q ∷ rest ≡ d .equations → deckLine n (line equationKind (equationContent q)) (sofar u (partly (d .inits) past)) ≡ Got (sofar DueEquation (partly (d .inits) (past ++ q ∷ [])))
+  equation-read : (n : ℕ) (u : Due) (past : List Equation) (q : Equation) (rest : List Equation)
+      → permits u equationKind ≡ true
+      → past ++ q ∷ rest ≡ d .equations
+      → deckLine n (line equationKind (equationContent q)) (sofar u (partly (d .inits) past)) ≡ Got (sofar DueEquation (partly (d .inits) (past ++ q ∷ [])))
   unfolding frameLine equationLine withEquation totalNodes
   equation-read n u past q rest p e =
       let fine : Allowed base (d .vars) q = each-at (Allowed base (d .vars)) (d .equations) q (ok .equations-allowed) (subst (λ (l : List Equation). q among l) e (among-right past (q ∷ rest) q (inl refl))) in
-      let below : q .left < 64 = member-lt 64 (d .vars) (q .left) (ok .vars-in) (fine .its) in
+      let below : q .left < base .variables = member-lt (base .variables) (d .vars) (q .left) (ok .vars-in) (fine .its) in
       let rises : lastLeft past ≤ q .left = rising-before past q rest (subst Rising (sym e) (ok .equations-rise)) in
       let most : length past + 1 ≤ base .equations = omega (arith, ap length e, length-append past (q ∷ rest), ok .equations-most) in
       let sum : totalNodes past + nodes (q .right) ≤ base .equationNodes = omega (arith, ap totalNodes e, total-append past (q ∷ rest), ok .equations-nodes) in
       frame-due equationKind n (equationContent q) (sofar u (partly (d .inits) past)) (omega arith) p
       ∙ simp (
         byte-pair (q .left) (omega arith),
-        lt-ltb (q .left) 64 below,
+        lt-ltb (q .left) (base .variables) below,
         le-ltb (q .left) (lastLeft past) rises,
         whole-expr-pairs n (q .right) (fine .shallow) (written-below 64 (d .vars) (q .right) (ok .vars-in) (fine .uses)),
         has-true (d .vars) (q .left) (fine .its),
@@ -98,12 +104,19 @@ module _ (d : Deck) (ok : Accepted base d) where
   abbrev Open : Due → Type 0
   Open u = (permits u equationKind ≡ true) × (permits u propertyKind ≡ true)
 
-  last-walk : (n : ℕ) (u : Due) → Open u → n ≡ length (d .inits) + length (d .equations) + 2 → walk deckLine n (propertyOf d ∷ countOf d ∷ []) (sofar u (partly (d .inits) (d .equations))) ≡ Got (sofar DueNone d)
+  last-walk : (n : ℕ) (u : Due)
+      → Open u
+      → n ≡ length (d .inits) + length (d .equations) + 2
+      → walk deckLine n (propertyOf d ∷ countOf d ∷ []) (sofar u (partly (d .inits) (d .equations))) ≡ Got (sofar DueNone d)
   unfolding walk
   last-walk n u o e =
       walk-got deckLine n (propertyOf d) (countOf d ∷ []) _ _ (property-read n u (o .1)) ∙ walk-got deckLine (suc n) (countOf d) [] _ _ (count-read (suc n) (omega arith))
 
-  equations-walk : (qs past : List Equation) (n : ℕ) (u : Due) → Open u → past ++ qs ≡ d .equations → n ≡ length (d .inits) + length past + 2 → walk deckLine n (equationLines qs ++ (propertyOf d ∷ countOf d ∷ [])) (sofar u (partly (d .inits) past)) ≡ Got (sofar DueNone d)
+  equations-walk : (qs past : List Equation) (n : ℕ) (u : Due)
+      → Open u
+      → past ++ qs ≡ d .equations
+      → n ≡ length (d .inits) + length past + 2
+      → walk deckLine n (equationLines qs ++ (propertyOf d ∷ countOf d ∷ [])) (sofar u (partly (d .inits) past)) ≡ Got (sofar DueNone d)
   equations-walk [] past n u o e m =
       let all : past ≡ d .equations = sym (append-nil past) ∙ e in
       ap (λ (qs : List Equation). walk deckLine n (propertyOf d ∷ countOf d ∷ []) (sofar u (partly (d .inits) qs))) all ∙ last-walk n u o (omega (arith, ap length all))
@@ -111,7 +124,10 @@ module _ (d : Deck) (ok : Accepted base d) where
       walk-got deckLine n (line equationKind (equationContent q)) (equationLines qs ++ (propertyOf d ∷ countOf d ∷ [])) _ _ (equation-read n u past q qs (o .0) e)
       ∙ equations-walk qs (past ++ q ∷ []) (suc n) DueEquation (refl, refl) (append-assoc past (q ∷ []) qs ∙ e) (omega (arith, length-append past (q ∷ [])))
 
-  inits-walk : (ss past : List ℕ) (n : ℕ) → past ++ ss ≡ d .inits → n ≡ length past + 2 → walk deckLine n (stateLines initKind ss ++ (equationLines (d .equations) ++ (propertyOf d ∷ countOf d ∷ []))) (sofar DueAny (partly past [])) ≡ Got (sofar DueNone d)
+  inits-walk : (ss past : List ℕ) (n : ℕ)
+      → past ++ ss ≡ d .inits
+      → n ≡ length past + 2
+      → walk deckLine n (stateLines initKind ss ++ (equationLines (d .equations) ++ (propertyOf d ∷ countOf d ∷ []))) (sofar DueAny (partly past [])) ≡ Got (sofar DueNone d)
   inits-walk [] past n e m =
       let all : past ≡ d .inits = sym (append-nil past) ∙ e in
       ap (λ (ss : List ℕ). walk deckLine n (equationLines (d .equations) ++ (propertyOf d ∷ countOf d ∷ [])) (sofar DueAny (partly ss []))) all
@@ -120,7 +136,9 @@ module _ (d : Deck) (ok : Accepted base d) where
       walk-got deckLine n (line initKind (pairs setBytes s)) _ _ _ (init-read n DueAny past s ss refl e)
       ∙ inits-walk ss (past ++ s ∷ []) (suc n) (append-assoc past (s ∷ []) ss ∙ e) (omega (arith, length-append past (s ∷ [])))
 
-  first-walk : (ss : List ℕ) → ss ≡ d .inits → walk deckLine 2 (stateLines initKind ss ++ (equationLines (d .equations) ++ (propertyOf d ∷ countOf d ∷ []))) (sofar DueInit (partly [] [])) ≡ Got (sofar DueNone d)
+  first-walk : (ss : List ℕ)
+      → ss ≡ d .inits
+      → walk deckLine 2 (stateLines initKind ss ++ (equationLines (d .equations) ++ (propertyOf d ∷ countOf d ∷ []))) (sofar DueInit (partly [] [])) ≡ Got (sofar DueNone d)
   first-walk [] e = absurd (omega (arith, ap length e, ok .inits-some))
   first-walk (s ∷ ss) e = walk-got deckLine 2 (line initKind (pairs setBytes s)) _ _ _ (init-read 2 DueInit [] s ss refl e) ∙ inits-walk ss (s ∷ []) 3 e refl
 

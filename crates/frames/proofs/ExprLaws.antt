@@ -88,7 +88,9 @@ two-sign Weak = (omega arith, refl)
 -- ---- written, then read
 
 -- A node's pair is read as its sign.
-read-node : (left n : ℕ) (s : Sign) (cs : List ℕ) → (codeByte n < 256) × (signOf (codeByte n) ≡ s) → readExpr (suc left) (pair (codeByte n) ++ cs) ≡ begins (readExpr left) (pair (codeByte n) ++ cs) s cs
+read-node : (left n : ℕ) (s : Sign) (cs : List ℕ)
+    → (codeByte n < 256) × (signOf (codeByte n) ≡ s)
+    → readExpr (suc left) (pair (codeByte n) ++ cs) ≡ begins (readExpr left) (pair (codeByte n) ++ cs) s cs
 unfolding readExpr
 read-node left n s cs h = ap (λ (t : Sign). begins (readExpr left) (pair (codeByte n) ++ cs) t cs) (ap signOf (byte-pair (codeByte n) (h .0)) ∙ h .1)
 
@@ -152,7 +154,11 @@ module _ (left h l : ℕ) (cs : List ℕ) where
   says-one o (Wrong rs) e s = tt
   says-one o (Deep rs) e s = tt
 
-  says-two : (o : Op2) (a : Expr) (more : List ℕ) (r : Reading) → byteOf h l ≡ codeByte (node2 o) → Says left cs (Whole a more) → Says left more r → Says (suc left) (h ∷ l ∷ cs) (onward r (λ b rest. Whole (Two o a b) rest))
+  says-two : (o : Op2) (a : Expr) (more : List ℕ) (r : Reading)
+      → byteOf h l ≡ codeByte (node2 o)
+      → Says left cs (Whole a more)
+      → Says left more r
+      → Says (suc left) (h ∷ l ∷ cs) (onward r (λ b rest. Whole (Two o a b) rest))
   unfolding code nodePairs levels
   says-two o a more (Whole b rest) e s t = (
     begun-pair h l (node2 o) cs e (two-sign o .0)
@@ -163,12 +169,19 @@ module _ (left h l : ℕ) (cs : List ℕ) where
   says-two o a more (Wrong rs) e s t = tt
   says-two o a more (Deep rs) e s t = tt
 
-  says-onward : (o : Op2) (r : Reading) → byteOf h l ≡ codeByte (node2 o) → Says left cs r → ((more : List ℕ) → Says left more (readExpr left more)) → Says (suc left) (h ∷ l ∷ cs) (onward r (λ a more. onward (readExpr left more) (λ b rest. Whole (Two o a b) rest)))
+  says-onward : (o : Op2) (r : Reading)
+      → byteOf h l ≡ codeByte (node2 o)
+      → Says left cs r
+      → ((more : List ℕ) → Says left more (readExpr left more))
+      → Says (suc left) (h ∷ l ∷ cs) (onward r (λ a more. onward (readExpr left more) (λ b rest. Whole (Two o a b) rest)))
   says-onward o (Whole a more) e s f = says-two o a more (readExpr left more) e s (f more)
   says-onward o (Wrong rs) e s f = tt
   says-onward o (Deep rs) e s f = tt
 
-  begins-says : (s : Sign) → Begins (byteOf h l) s → ((more : List ℕ) → Says left more (readExpr left more)) → Says (suc left) (h ∷ l ∷ cs) (begins (readExpr left) (h ∷ l ∷ cs) s cs)
+  begins-says : (s : Sign)
+      → Begins (byteOf h l) s
+      → ((more : List ℕ) → Says left more (readExpr left more))
+      → Says (suc left) (h ∷ l ∷ cs) (begins (readExpr left) (h ∷ l ∷ cs) s cs)
   unfolding code nodePairs levels
   begins-says (Leaf (Const b)) e f = (begun-pair h l (constNode b) cs e (const-sign b .0), omega arith, tt)
   begins-says (Leaf (Var v)) e f = (begun-pair h l v cs (e .0) (variable-sign v (e .1) .0), omega arith, e .1)
@@ -188,7 +201,9 @@ read-says (suc left) (h ∷ []) = tt
 read-says (suc left) (h ∷ l ∷ cs) = begins-says left h l cs (signOf (byteOf h l)) (sign-begins (byteOf h l)) (read-says left)
 
 -- What is read as an expression is that expression written, within the levels and with variables below 64.
-pub expr-read-written : (left : ℕ) (cs : List ℕ) (e : Expr) (rest : List ℕ) → readExpr left cs ≡ Whole e rest → (cs ≡ nodePairs (code e) ++ rest) × (levels e ≤ left) × Below 64 e
+pub expr-read-written : (left : ℕ) (cs : List ℕ) (e : Expr) (rest : List ℕ)
+    → readExpr left cs ≡ Whole e rest
+    → (cs ≡ nodePairs (code e) ++ rest) × (levels e ≤ left) × Below 64 e
 expr-read-written left cs e rest h = subst (Says left cs) h (read-says left cs)
 
 -- The variables below w are the expressions with a written set below 2 ^ w.
