@@ -1,1 +1,12 @@
+pub mod HexLaws
+pub mod ExprLaws
+pub mod LineLaws
+pub mod SizeLaws
+pub mod LeftLaws
+pub mod DeckLaws
+pub mod DeckWritten
+pub mod DeckRead
+pub mod DeckTheorems
+pub mod ClaimLaws
+pub mod ClaimTheorems
 pub mod Cases
