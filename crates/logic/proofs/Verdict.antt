@@ -180,12 +180,12 @@ module _ (L : Limits) (m : Claim) (sized : Sized L m) where
         let e = position-is L m sized i h in
         let digits = unrolled-lt m z x y l x-digit y-digit in
         same-digit
-          (unrolled m z x y n i)
-          (unrolled m z x y (m .p + m .c) i)
-          (digits n i)
-          (digits (m .p + m .c) i)
-          (λ t. rw e at (all .0 (big .1 (rw e t))))
-          (λ t. rw e at (big .0 (all .1 (rw e t))))
+        (unrolled m z x y n i)
+        (unrolled m z x y (m .p + m .c) i)
+        (digits n i)
+        (digits (m .p + m .c) i)
+        (λ t. rw e at (all .0 (big .1 (rw e t))))
+        (λ t. rw e at (big .0 (all .1 (rw e t))))
 
     pub until-enough : (n i : ℕ) → i < m .p + m .c → max i (m .p) + m .c ≤ i + n → unrolled m 0 x y n i ≡ unrolled m 0 x y (m .p + m .c) i
     until-enough n i h l = enough 0 (omega arith) (Holds (claimRun m) (Two Until a b) i) n i h (until-worked n i l) (until-worked (m .p + m .c) i (omega arith))

@@ -1,0 +1,72 @@
+use mathlib.Core.Path.{_≡_, refl, sym, ap, _∙_}
+use Prim.Native.Nat.{ℕ, zero, suc, _+_, _*_, _-_, _/_, _%_, _^_, _<_, _≤_, min, max}
+use native.Mathlib.Omega.{arith}
+use lib.ListN.{length, getD, set, length-set}
+use borrow.Author.Needs.{needs}
+use Rattle.evaluator.specs.Pending.{top, second, pushed, topped, joined, Done, All, Swept, Below, sweep, seconds, tops}
+use Rattle.evaluator.proofs.Laws as laws
+use Rattle.evaluator.proofs.push.Statement.{statement}
+use Rattle.evaluator.proofs.push.Tie as tie
+use Rattle.evaluator.proofs.push.Reads as reads
+use Rattle.evaluator.proofs.push.Lts as lts
+use Rattle.evaluator.proofs.push_value.Reads as push-value-reads
+use Rattle.evaluator.proofs.put_word.Reads as put-word-reads
+use Rattle.evaluator.proofs.word_at.Reads as word-at-reads
+
+abbrev Inv-loop : tie.InvT-loop
+Inv-loop words₀ x i₀ words i = (i ≤ length words) × Done (λ j w. pushed w x) i words₀ words
+
+abbrev μ-loop : tie.MeasureT-loop
+μ-loop words₀ x i₀ words i = length words - i
+
+-- src/lib.rt:38:5
+loop-holds : tie.Need-loop-holds Inv-loop μ-loop
+loop-holds c = search (needs, laws.done-none)
+
+-- src/lib.rt:39:39
+word-at-requires : tie.Need-word-at-requires Inv-loop μ-loop
+word-at-requires c κs = search needs
+
+-- src/lib.rt:39:28
+push-value-requires : tie.Need-push-value-requires Inv-loop μ-loop
+push-value-requires c κs = search (needs, laws.done-below)
+
+-- src/lib.rt:39:9
+put-word-requires : tie.Need-put-word-requires Inv-loop μ-loop
+put-word-requires c κs = search needs
+
+-- src/lib.rt:40:9
+add-i : tie.Need-add-i Inv-loop μ-loop
+add-i c = search needs
+
+-- src/lib.rt:38:5
+loop-less : tie.Need-loop-less Inv-loop μ-loop
+loop-less c = search needs
+
+-- src/lib.rt:38:5
+loop-again : tie.Need-loop-again Inv-loop μ-loop
+loop-again c = search (needs, laws.done-next)
+
+-- src/lib.rt:33:1
+same-length : tie.Need-same-length Inv-loop μ-loop
+same-length c = search (needs, laws.done-all)
+
+-- src/lib.rt:33:1
+returns : tie.Need-returns Inv-loop μ-loop
+returns c = search (needs, laws.done-all)
+
+pub push-spec : {M : Type 1} → statement M
+push-spec =
+    tie.close
+    (tie.spec
+    Inv-loop
+    μ-loop
+    loop-holds
+    word-at-requires
+    push-value-requires
+    put-word-requires
+    add-i
+    loop-less
+    loop-again
+    same-length
+    returns)
