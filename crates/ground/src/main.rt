@@ -51,23 +51,36 @@ fn print_expression(nodes: &[u16], at: usize) {
     print_answer(b"  temporal: ", terms::has_temporal(nodes, at, end));
 }
 
-// The sets of no, one and all variables.
-fn print_sets() {
-    let all = sets::union(sets::variable(63), 0x7fff_ffff_ffff_ffff);
+// The sets of the first, the last and no variable.
+fn print_single() {
+    let last = sets::variable(63);
     print_set(b"V0 alone ", sets::variable(0));
-    print_set(b"V63 alone ", sets::variable(63));
+    print_set(b"V63 alone ", last);
+    print_number(b"  the lowest V", sets::lowest(last));
     print_set(b"V64 has no room: ", sets::variable(64));
+}
+
+// The set of all variables.
+fn print_all() {
+    let last = sets::variable(63);
+    let all = sets::union(last, 0x7fff_ffff_ffff_ffff);
     print_set(b"all variables ", all);
     print_number(b"  their number ", sets::size(all));
     print_number(b"  the lowest V", sets::lowest(all));
     print_answer(b"  V63 among them: ", sets::member(all, 63));
     print_answer(b"  V64 among them: ", sets::member(all, 64));
-    print_set(b"all but V63 ", sets::without(all, sets::variable(63)));
-    print_number(b"lowest of V63 alone V", sets::lowest(sets::variable(63)));
-    print_number(b"lowest of nothing ", sets::lowest(0));
-    print_number(b"number of nothing ", sets::size(0));
-    print_answer(b"nothing within nothing: ", sets::subset(0, 0));
-    print_answer(b"all within V63: ", sets::subset(all, sets::variable(63)));
+    print_answer(b"  within V63: ", sets::subset(all, last));
+    print_set(b"  without V63 ", sets::without(all, last));
+}
+
+// The empty set.
+fn print_nothing() {
+    let first = sets::variable(0);
+    let nothing = sets::meet(first, sets::variable(63));
+    print_set(b"V0 and V63 meet in ", nothing);
+    print_number(b"  their number ", sets::size(nothing));
+    print_number(b"  the lowest, none ", sets::lowest(nothing));
+    print_answer(b"  within V0: ", sets::subset(nothing, first));
 }
 
 // The property of the worked deck, (G~V1&FV2).
@@ -86,17 +99,23 @@ fn print_deep() {
     print_expression(&nodes, 0);
 }
 
-// 128 nodes: four times `&`, each with `~` down to level 32 before V60 as its first operand, and in the last (V61UXXXV63) as its second.
-fn print_property() {
-    let mut nodes = [0u16; 128];
+// Puts four times `&`, each with `~` down to level 32 before V60 as its first operand, and answers where they end.
+fn put_chains(nodes: &mut [u16]) -> usize {
     let mut at = 0;
     let mut k = 0;
     while k < 4 {
-        at = put(&mut nodes, at, 1, terms::AND);
-        at = put(&mut nodes, at, 30 - k, terms::NOT);
-        at = put(&mut nodes, at, 1, 60);
+        at = put(nodes, at, 1, terms::AND);
+        at = put(nodes, at, 30 - k, terms::NOT);
+        at = put(nodes, at, 1, 60);
         k += 1;
     }
+    at
+}
+
+// 128 nodes: such chains, and (V61UXXXV63) as the last second operand.
+fn print_property() {
+    let mut nodes = [0u16; 128];
+    let mut at = put_chains(&mut nodes);
     at = put(&mut nodes, at, 1, terms::UNTIL);
     at = put(&mut nodes, at, 1, 61);
     at = put(&mut nodes, at, 3, terms::NEXT);
@@ -105,19 +124,25 @@ fn print_property() {
     print_expression(&nodes, 0);
 }
 
-// 2,048 nodes: 64 right sides of 32 nodes, one for each variable.
-fn print_equations() {
-    let mut nodes = [0u16; 2048];
+// Puts 64 right sides of 32 nodes, one for each variable, and answers where they end.
+fn put_equations(nodes: &mut [u16]) -> usize {
     let mut at = 0;
     let mut v = 0u16;
     while v < 64 {
-        at = put(&mut nodes, at, 31, terms::NOT);
-        at = put(&mut nodes, at, 1, v);
+        at = put(nodes, at, 31, terms::NOT);
+        at = put(nodes, at, 1, v);
         v += 1;
     }
-    print_number(b"right sides, nodes together ", at);
-    print_set(b"  all written ", terms::written_in(&nodes, 0, at));
-    print_answer(b"  temporal: ", terms::has_temporal(&nodes, 0, at));
+    at
+}
+
+// The 2,048 nodes of 64 right sides.
+fn print_equations() {
+    let mut nodes = [0u16; 2048];
+    let end = put_equations(&mut nodes);
+    print_number(b"nodes of 64 right sides ", end);
+    print_set(b"  write ", terms::written_in(&nodes, 0, end));
+    print_answer(b"  temporal: ", terms::has_temporal(&nodes, 0, end));
     io::write_all(STDOUT_FILENO, b"the last of them\n");
     print_expression(&nodes, 2016);
     io::write_all(STDOUT_FILENO, b"behind the last\n");
@@ -125,7 +150,9 @@ fn print_equations() {
 }
 
 fn main() {
-    print_sets();
+    print_single();
+    print_all();
+    print_nothing();
     print_worked();
     print_deep();
     print_property();
