@@ -42,6 +42,9 @@ written-below w s (Two o a b) h f = (
   written-below w s b h (subset-trans _ _ _ (union-right (written a) (written b)) f),
 )
 
+pub written-narrow : (w s : ℕ) (e : Expr) → w ≤ 256 → s < 2 ^ w → written e ⊆ s → Narrow e
+written-narrow w s e l h f = below-more w 256 e l (written-below w s e h f)
+
 -- ---- what a node is
 
 -- A node is a whole expression, or an operator of one or two places.

@@ -13,7 +13,6 @@ use lib.Seq.{take-nil, drop-cons}
 use lib.Bits.{or-zero-l, or-zero-r}
 use Rattle.sets.specs.Sets.{only, union, width}
 use Rattle.sets.proofs.Laws.{ext, bit-union, only-mod, only-mod-high}
-use Rattle.logic.specs.Expressions.{nodes, written}
 use Rattle.terms.specs.Nodes.{constant?, placesOf, temporal?, spans, part, variableOf, variablesOf, someTemporal}
 
 -- general:

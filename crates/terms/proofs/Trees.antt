@@ -196,7 +196,7 @@ pub temporal-code : (e : Expr) → Narrow e → someTemporal (code e) ≡ not (p
 unfolding someTemporal code plain?
 temporal-code (Const false) h = refl
 temporal-code (Const true) h = refl
-temporal-code (Var v) h = ap (λ (b : Bool). b || false) (lt-leb 261 v (omega arith))
+temporal-code (Var v) h = ap (λ (b : Bool). b || false) (lt-leb _ v (omega arith))
 temporal-code (One Not e) h = temporal-code e h
 temporal-code (One Next e) h = refl
 temporal-code (One Future e) h = refl

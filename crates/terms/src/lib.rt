@@ -2,7 +2,7 @@
 use sets::union;
 use sets::variable;
 ghost use mathlib.Core.Path.{_≡_};
-ghost use Prim.Native.Nat.{ℕ, _+_, _-_, _<_, _≤_, max};
+ghost use Prim.Native.Nat.{_+_, _<_, max};
 ghost use lib.Dec.{eqb};
 ghost use lib.ListN.{length, drop};
 ghost use Rattle.logic.specs.Expressions.{Expr, levels as depth};
@@ -154,6 +154,7 @@ pub fn has_temporal(nodes: &[u16], at: usize, end: usize) -> bool
     false
 }
 
+// The larger of the two.
 fn larger(a: usize, b: usize) -> usize
     ensures { λ r. ⌜ r ≡ max a b ⌝ }
 {
