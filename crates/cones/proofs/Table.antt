@@ -165,10 +165,10 @@ module _ (lefts ends cs : List ℕ) (n : ℕ) where
       written-here : (deps : List ℕ) (from end more : ℕ) → Filling lefts ends cs n deps i from → end ≡ getD ends i 0 → more ≡ variablesOf (part from end cs) → more ≡ written (equation qs i .right)
       written-here deps from end more f e m =
           let right : Expr = equation qs i .right in
-          let fits : Below 64 right = written-below 64 (written right) right (small .uses) (subset-refl (written right)) in
+          let fits : Below (base .variables) right = written-below (base .variables) (written right) right (small .uses) (subset-refl (written right)) in
           m
           ∙ ap₂ (λ (a b : ℕ). variablesOf (part a b cs)) (f .begins qs g) (end-its end e ∙ next-end qs lefts ends cs n i (g .held) h)
-          ∙ stands-written cs (totalNodes (take i qs)) right fits (right-stands qs lefts ends cs n i (g .held) h (below-more 64 256 right (omega arith) fits))
+          ∙ stands-written cs (totalNodes (take i qs)) right fits (right-stands qs lefts ends cs n i (g .held) h (below-more (base .variables) 256 right (omega arith) fits))
 
       all-next : (deps deps′ : List ℕ) (from v end more : ℕ) → Filling lefts ends cs n deps i from → v ≡ getD lefts i 0 → end ≡ getD ends i 0 → more ≡ variablesOf (part from end cs) → deps′ ≡ set deps v (union (getD deps v 0) more) → table qs ≡ with-equations (drop (i + 1) qs) deps′
       unfolding with-equations

@@ -17,18 +17,18 @@ pub struct ConeRead {
     pub size: usize,
 }
 
-// The number at place i of a row.
+fn wide(n: u16) -> usize
+    ensures { λ r. ⌜ r ≡ n ⌝ }
+{
+    n as usize
+}
+
+// Number i of a row.
 fn number_at(row: &[u16], i: usize) -> usize
     requires { ⌜ i < length (now row) ⌝ }
     ensures { λ r. ⌜ r ≡ getD (now (row .entry)) i 0 ⌝ }
 {
     wide(row[i])
-}
-
-fn wide(n: u16) -> usize
-    ensures { λ r. ⌜ r ≡ n ⌝ }
-{
-    n as usize
 }
 
 // The variables that v depends on.
@@ -44,7 +44,8 @@ fn add(deps: &mut [u64], v: usize, more: u64)
     requires { ⌜ v < length (now deps) ⌝ }
     ensures { λ _. ⌜ now (deps .exit) ≡ put (now (deps .entry)) v (union (getD (now (deps .entry)) v 0) more) ⌝ }
 {
-    deps[v] = sets::union(deps[v], more);
+    let known = deps[v];
+    deps[v] = sets::union(known, more);
 }
 
 // Fills a table of zeros: for each variable the variables written in any of its equations. Each node is passed once.

@@ -5,23 +5,23 @@ use Rattle.cones.proofs.add.Reads as reads
 use Rattle.cones.proofs.add.Lts as lts
 use Rattle.sets.proofs.union.Reads as union-reads
 
--- src/lib.rt:47:27
-mul-union : tie.Need-mul-union
-mul-union c = search needs
+-- src/lib.rt:47:17
+mul-known : tie.Need-mul-known
+mul-known c = search needs
 
--- src/lib.rt:47:27
-slice-read-union : tie.Need-slice-read-union
-slice-read-union c = search needs
+-- src/lib.rt:47:17
+slice-read-known : tie.Need-slice-read-known
+slice-read-known c = search needs
 
--- src/lib.rt:47:15
+-- src/lib.rt:48:15
 union-requires : tie.Need-union-requires
 union-requires c κs = search needs
 
--- src/lib.rt:47:5
+-- src/lib.rt:48:5
 mul-deps : tie.Need-mul-deps
 mul-deps c = search needs
 
--- src/lib.rt:47:5
+-- src/lib.rt:48:5
 slice-write-deps : tie.Need-slice-write-deps
 slice-write-deps c = search needs
 
@@ -37,8 +37,8 @@ pub add-spec : {M : Type 1} → statement M
 add-spec =
     tie.close
     (tie.spec
-    mul-union
-    slice-read-union
+    mul-known
+    slice-read-known
     union-requires
     mul-deps
     slice-write-deps
