@@ -40,6 +40,29 @@ module _ {A : Type 0} where
   find-some P (y ∷ ys) x (inl e) p = inl (subst P e p)
   find-some P (y ∷ ys) x (inr m) p = inr (find-some P ys x m p)
 
+  -- Where each x has P or Q, every member has P or some member has Q.
+  pub each-or-some : (P Q : A → Type 0) (xs : List A) → ((x : A) → P x ⊎ Q x) → Each P xs ⊎ Some Q xs
+  each-or-some P Q [] f = inl tt
+  each-or-some P Q (y ∷ ys) f = ⊎-elim (λ p. ⊎-elim (λ ps. inl (p, ps)) (λ s. inr (inr s)) (each-or-some P Q ys f)) (λ q. inr (inl q)) (f y)
+
+  -- ---- members by their places
+
+  pub each-getD : (P : A → Type 0) (xs : List A) (i : ℕ) (d : A) → Each P xs → i < length xs → P (getD xs i d)
+  each-getD P [] i d ps h = absurd (omega arith)
+  each-getD P (x ∷ xs) zero d ps h = ps .0
+  each-getD P (x ∷ xs) (suc i) d ps h = each-getD P xs i d (ps .1) (omega arith)
+
+  pub getD-each : (P : A → Type 0) (xs : List A) (d : A) → ((i : ℕ) → i < length xs → P (getD xs i d)) → Each P xs
+  getD-each P [] d f = tt
+  getD-each P (x ∷ xs) d f = (f 0 (omega arith), getD-each P xs d (λ i h. f (suc i) (omega arith)))
+
+  pub getD-among : (xs : List A) (i : ℕ) (d : A) → i < length xs → getD xs i d among xs
+  getD-among xs i d h = each-getD (λ x. x among xs) xs i d (each-all (λ x. x among xs) xs (λ x m. m)) h
+
+  pub among-getD : (xs : List A) (x d : A) → x among xs → (i : ℕ) × (i < length xs) × (x ≡ getD xs i d)
+  among-getD (y ∷ ys) x d (inl e) = (0, omega arith, e)
+  among-getD (y ∷ ys) x d (inr m) = let f = among-getD ys x d m in (suc (f .0), omega (arith, f .1), f .2)
+
   -- ---- two lists, one behind the other
 
   pub each-append : (P : A → Type 0) (xs ys : List A) → Each P xs → Each P ys → Each P (xs ++ ys)
@@ -49,6 +72,12 @@ module _ {A : Type 0} where
   pub append-each : (P : A → Type 0) (xs ys : List A) → Each P (xs ++ ys) → Each P xs × Each P ys
   append-each P [] ys ps = (tt, ps)
   append-each P (x ∷ xs) ys ps = let rest = append-each P xs ys (ps .1) in ((ps .0, rest .0), rest .1)
+
+  pub each-take : (P : A → Type 0) (n : ℕ) (xs : List A) → Each P xs → Each P (take n xs)
+  each-take P n xs ps = append-each P (take n xs) (drop n xs) (rw (take-append-drop n xs) ps) .0
+
+  pub each-drop : (P : A → Type 0) (n : ℕ) (xs : List A) → Each P xs → Each P (drop n xs)
+  each-drop P n xs ps = append-each P (take n xs) (drop n xs) (rw (take-append-drop n xs) ps) .1
 
   pub some-left : (P : A → Type 0) (xs ys : List A) → Some P xs → Some P (xs ++ ys)
   some-left P (x ∷ xs) ys (inl p) = inl p
@@ -248,6 +277,11 @@ unfolding firsts
 length-firsts [] = omega arith
 length-firsts (x ∷ xs) = omega (arith, length-others x (firsts xs), length-firsts xs)
 
+pub firsts-some : (xs : List ℕ) → 1 ≤ length xs → 1 ≤ length (firsts xs)
+unfolding firsts
+firsts-some [] h = h
+firsts-some (x ∷ xs) h = omega arith
+
 pub each-firsts : (P : ℕ → Type 0) (xs : List ℕ) → Each P xs → Each P (firsts xs)
 each-firsts P xs ps = each-all P (firsts xs) (λ x m. each-at P xs x ps (firsts-among x xs m))
 
@@ -396,17 +430,28 @@ length-splice i vs l h =
       length-drop (i + length vs) l,
     )
 
+splice-head : (i : ℕ) (vs l : List ℕ) → i ≤ length l → length (take i l ++ vs) ≡ i + length vs
+splice-head i vs l h = omega (arith, length-append (take i l) vs, length-take-le i l h)
+
+-- What stands up to the end of the part, and behind it.
+pub take-splice : (i : ℕ) (vs l : List ℕ) → i ≤ length l → take (i + length vs) (splice i vs l) ≡ take i l ++ vs
+take-splice i vs l h =
+    ap (take (i + length vs)) (sym (append-assoc (take i l) vs (drop (i + length vs) l)))
+    ∙ take-at (take i l ++ vs) (drop (i + length vs) l) (i + length vs) (splice-head i vs l h)
+
+pub drop-splice : (i : ℕ) (vs l : List ℕ) → i ≤ length l → drop (i + length vs) (splice i vs l) ≡ drop (i + length vs) l
+drop-splice i vs l h =
+    ap (drop (i + length vs)) (sym (append-assoc (take i l) vs (drop (i + length vs) l)))
+    ∙ drop-at (take i l ++ vs) (drop (i + length vs) l) (i + length vs) (splice-head i vs l h)
+
 -- One part behind the other.
 pub splice-splice : (i : ℕ) (vs ws l : List ℕ) → i ≤ length l → splice (i + length vs) ws (splice i vs l) ≡ splice i (vs ++ ws) l
 splice-splice i vs ws l h =
     let n : ℕ = i + length vs in
-    let head : List ℕ = take i l ++ vs in
-    let long : length head ≡ n = omega (arith, length-append (take i l) vs, length-take-le i l h) in
-    ap (λ (m : List ℕ). splice n ws m) (sym (append-assoc (take i l) vs (drop n l)))
-    ∙ ap (λ (m : List ℕ). m ++ (ws ++ drop (n + length ws) (head ++ drop n l))) (take-at head (drop n l) n long)
+    ap (λ (m : List ℕ). m ++ (ws ++ drop (n + length ws) (splice i vs l))) (take-splice i vs l h)
     ∙ ap
-    (λ (m : List ℕ). head ++ (ws ++ m))
-    (sym (drop-drop (length ws) n (head ++ drop n l)) ∙ ap (drop (length ws)) (drop-at head (drop n l) n long) ∙ drop-drop (length ws) n l)
+    (λ (m : List ℕ). take i l ++ vs ++ (ws ++ m))
+    (sym (drop-drop (length ws) n (splice i vs l)) ∙ ap (drop (length ws)) (drop-splice i vs l h) ∙ drop-drop (length ws) n l)
     ∙ append-assoc (take i l) vs (ws ++ drop (n + length ws) l)
     ∙ ap (λ (m : List ℕ). take i l ++ m) (sym (append-assoc vs ws (drop (n + length ws) l)))
     ∙ ap (λ (k : ℕ). take i l ++ (vs ++ ws ++ drop k l)) (add-assoc i (length vs) (length ws) ∙ ap (λ (k : ℕ). i + k) (sym (length-append vs ws)))

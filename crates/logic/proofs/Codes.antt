@@ -1,17 +1,16 @@
 -- Prefix codes: an expression's nodes in prefix order can be read back in one way only.
-use mathlib.Core.Path.{_≡_, refl, sym, ap, ap₂, _∙_}
+use mathlib.Core.Path.{_≡_, refl, sym, ap, _∙_}
 use mathlib.Core.Bool.{Bool, true, false}
 use mathlib.Core.List.{List, [], _∷_, _++_, append-assoc, append-nil, head-eq-of-cons-eq, tail-eq-of-cons-eq}
-use Prim.Native.Nat.{ℕ, zero, suc, _+_, _-_, _*_, _/_, _%_, _^_, _<_, _≤_, min, max}
+use Prim.Native.Nat.{ℕ, _+_, _-_, _^_, _<_, _≤_}
 use native.Mathlib.Omega.{arith}
-use native.Mathlib.Decide.{decLt}
 use borrow.Author.Tests.{lt-ltb}
 use lib.Dec.{ltb}
 use lib.ListN.{length, getD, length-append}
-use lib.Pow.{pow-mono}
 use Rattle.lists.specs.Lists.{Each}
-use Rattle.sets.specs.Sets.{_∋_, _⊆_}
-use Rattle.sets.proofs.Laws.{bit-high, bit-only, union-left, union-right, subset-trans}
+use Rattle.lists.proofs.Laws.{each-append}
+use Rattle.sets.specs.Sets.{_⊆_}
+use Rattle.sets.proofs.Laws.{bit-only, union-left, union-right, subset-trans, member-lt}
 use Rattle.logic.specs.Expressions.{Expr, Const, Var, One, Two, Op1, Op2, Not, Next, Future, Always, And, Or, Until, Weak, nodes, levels, written, constNode, node1, node2, code}
 
 -- ---- variables below a bound
@@ -33,18 +32,10 @@ below-more w u (Var v) h n = omega arith
 below-more w u (One o e) h n = below-more w u e h n
 below-more w u (Two o a b) h n = (below-more w u a h (n .0), below-more w u b h (n .1))
 
--- A set below 2 ^ w has no member from w on.
-member-below : (w s v : ℕ) → s < 2 ^ w → s ∋ v → v < w
-member-below w s v h m = go (decLt v w)
-  where
-    go : Dec (v < w) → v < w
-    go (yes l) = l
-    go (no n) = absurd (omega (arith, m, bit-high s v (omega (arith, h, pow-mono {i = w} {j = v} (omega arith)))))
-
 pub written-below : (w s : ℕ) (e : Expr) → s < 2 ^ w → written e ⊆ s → Below w e
 unfolding written
 written-below w s (Const b) h f = tt
-written-below w s (Var v) h f = member-below w s v h (f v (bit-only v))
+written-below w s (Var v) h f = member-lt w s v h (f v (bit-only v))
 written-below w s (One o e) h f = written-below w s e h f
 written-below w s (Two o a b) h f = (
   written-below w s a h (subset-trans _ _ _ (union-left (written a) (written b)) f),
@@ -192,11 +183,6 @@ two-fits And = omega arith
 two-fits Or = omega arith
 two-fits Until = omega arith
 two-fits Weak = omega arith
-
--- general:
-pub each-append : {A : Type 0} (P : A → Type 0) (s t : List A) → Each P s → Each P t → Each P (s ++ t)
-each-append P [] t p q = q
-each-append P (x ∷ xs) t p q = (p .0, each-append P xs t (p .1) q)
 
 pub code-fits : (e : Expr) → Narrow e → Each (λ (c : ℕ). c < 266) (code e)
 unfolding code

@@ -2,17 +2,17 @@
 use mathlib.Core.Path.{_≡_, refl, sym, ap, ap₂, _∙_, subst}
 use mathlib.Core.Logic.{_⊎_, inl, inr, ⊎-elim, by-cases, _↔_}
 use mathlib.Core.Bool.{Bool, true, false}
-use mathlib.Core.List.{List, [], _∷_, map}
+use mathlib.Core.List.{List, [], _∷_, map, nil≢cons}
 use Prim.Native.Nat.{ℕ, zero, suc, _+_, _-_, _*_, _<_, _≤_, min, max}
 use native.Mathlib.Omega.{arith}
 use native.Mathlib.Decide.{ℕ-discrete, le-ind}
 use native.Mathlib.Nat.{le-refl}
 use lib.Dec.{eqb}
-use borrow.Author.Tests.{eqb-true, eqb-false}
-use Rattle.lists.specs.Lists.{Each, Some, _among_}
-use Rattle.lists.proofs.Laws.{each-at, each-map, some-find, find-some, some-of-map, map-some}
+use borrow.Author.Tests.{eq-eqb, ne-eqb, eqb-true, eqb-false}
+use Rattle.lists.specs.Lists.{Each, Some, _among_, keep}
+use Rattle.lists.proofs.Laws.{each-at, each-map, some-find, find-some, some-of-map, map-some, keep-pass, keep-fail}
 use Rattle.sets.specs.Sets.{bit, _∋_, _⊆_, has, only, union, meet}
-use Rattle.sets.proofs.Laws.{bit-lt, bit-zero, bit-union, bit-meet, bit-only, only-bit, not-in, member-dec, has-true, has-false, subset-trans, union-left, union-right, union-least, meet-right}
+use Rattle.sets.proofs.Laws.{subset-le, bit-meet-in, bit-zero, bit-union, bit-only, only-bit, not-in, member-dec, has-true, has-false, subset-trans, union-left, union-right, union-least, meet-right}
 use Rattle.logic.specs.Expressions.{Expr, Const, Var, One, Two, Not, Next, Future, Always, And, Or, Until, Weak, written, value}
 use Rattle.logic.specs.Decks.{Equation, Deck, Limits, Allowed, Accepted}
 use Rattle.logic.specs.Meaning.{Run, Holds, Takes, Step, RunOf, Loops, Breaks, Broken}
@@ -20,8 +20,8 @@ use Rattle.logic.specs.Cones.{IsCone}
 use Rattle.logic.specs.Pieces.{split, coneOf, equationsOf, piece, pieces}
 use Rattle.logic.proofs.Truth.{only-written, holds-dec, some-below}
 use Rattle.logic.proofs.Operators.{value-lt}
-use Rattle.logic.proofs.Cone.{Carried, cone-is, cone-closed, cone-in}
-use Rattle.logic.proofs.Pieces.{subset-le, split-and, split-parts, PartOf, piece-least, equations-kept, kept-equations, among-projected, projected-among}
+use Rattle.logic.proofs.Cone.{Carried, equationsFor, cone-is, cone-closed, cone-in}
+use Rattle.logic.proofs.Pieces.{split-and, split-parts, PartOf, piece-least, equations-kept, kept-equations, among-projected, projected-among}
 
 -- ---- values
 
@@ -46,11 +46,6 @@ cone-value : (d : Deck) (e : Expr) (q : Equation) (s t : ℕ)
     → q among d .equations → coneOf d e ∋ q .left → ((v : ℕ) → coneOf d e ∋ v → bit s v ≡ bit t v) → value s (q .right) ≡ value t (q .right)
 cone-value d e q s t m i h =
     value-agree (q .right) s t (λ v j. h v (each-at (Carried (coneOf d e)) (d .equations) q (cone-closed (d .equations) (written e)) m i v j))
-
--- general: a state seen on a set
-
-pub meet-in : (s c v : ℕ) → c ∋ v → bit (meet s c) v ≡ bit s v
-meet-in s c v i = omega (arith, bit-meet s c v, bit-lt s v, i)
 
 -- ---- a run of the deck, seen on the cone
 
@@ -84,8 +79,8 @@ run-seen L d e a w r h =
       starts = among-projected (coneOf d e) (d .inits) (r 0) (h .starts);
       within = λ k. meet-right (r k) (coneOf d e);
       steps = λ k v i.
-          takes-alike d e (r k) (meet (r k) (coneOf d e)) v (bit (meet (r (suc k)) (coneOf d e)) v) i (λ u j. sym (meet-in (r k) (coneOf d e) u j)) .0
-          (subst (λ (x : ℕ). Takes d (r k) v x) (sym (meet-in (r (suc k)) (coneOf d e) v i)) (h .steps k v (cone-in L d (written e) a w v i)));
+          takes-alike d e (r k) (meet (r k) (coneOf d e)) v (bit (meet (r (suc k)) (coneOf d e)) v) i (λ u j. sym (bit-meet-in (r k) (coneOf d e) u j)) .0
+          (subst (λ (x : ℕ). Takes d (r k) v x) (sym (bit-meet-in (r (suc k)) (coneOf d e) v i)) (h .steps k v (cone-in L d (written e) a w v i)));
     }
 
 pub loops-seen : (r : Run) (c : ℕ) → Loops r → Loops (seen r c)
@@ -170,6 +165,9 @@ valued-later c q qs s v m n =
     ∙ bit-union (given (q .left) (value s (q .right))) rest v
     ∙ omega (arith, given-other (q .left) (value s (q .right)) v m)
 
+outside : (c w v : ℕ) → (c ∋ v → ⊥) → (v ≡ w → ⊥) → union c (only w) ∋ v → ⊥
+outside c w v n m i = omega (arith, i, bit-union c (only w) v, not-in c v n, not-in (only w) v (λ h. m (only-bit w v h)))
+
 valued-takes : (c : ℕ) (qs : List Equation) (s v : ℕ)
     → (c ∋ v → ⊥) → Some (λ (q : Equation). q .left ≡ v) qs → Some (λ (q : Equation). (q .left ≡ v) × (value s (q .right) ≡ bit (valued c qs s) v)) qs
 valued-takes c (q ∷ qs) s v n k =
@@ -184,8 +182,7 @@ valued-takes c (q ∷ qs) s v n k =
     (λ i. subst (λ (t : ℕ). Some (λ (o : Equation). (o .left ≡ v) × (value s (o .right) ≡ bit t v)) qs) (sym (valued-known c q qs s i)) (valued-takes c qs s v n rest))
     (λ j.
     subst (λ (x : ℕ). Some (λ (o : Equation). (o .left ≡ v) × (value s (o .right) ≡ x)) qs) (sym (valued-later c q qs s v m j))
-    (valued-takes (union c (only (q .left))) qs s v
-    (λ i. omega (arith, i, bit-union c (only (q .left)) v, not-in c v n, not-in (only (q .left)) v (λ h. m (only-bit (q .left) v h)))) rest))))
+    (valued-takes (union c (only (q .left))) qs s v (outside c (q .left) v n m) rest))))
 
 -- The step from s that takes t's values on c: every other variable takes its first equation's value.
 unfoldable pub stepWith : Deck → ℕ → ℕ → ℕ → ℕ
@@ -198,6 +195,29 @@ step-on d c t s v i = bit-union t (valued c (d .equations) s) v ∙ omega (arith
 step-off : (d : Deck) (c t s v : ℕ) → t ⊆ c → (c ∋ v → ⊥) → bit (stepWith d c t s) v ≡ bit (valued c (d .equations) s) v
 unfolding stepWith
 step-off d c t s v f n = bit-union t (valued c (d .equations) s) v ∙ omega (arith, not-in t v (λ i. n (f v i)))
+
+valued-by-first : (c : ℕ) (qs : List Equation) (s v : ℕ) (q : Equation) (more : List Equation)
+    → (c ∋ v → ⊥) → equationsFor v qs ≡ q ∷ more → bit (valued c qs s) v ≡ value s (q .right)
+unfolding keep
+valued-by-first c [] s v q more n e = absurd (nil≢cons e)
+valued-by-first c (o ∷ qs) s v q more n e =
+    by-cases
+    (ℕ-discrete v (o .left))
+    (λ h.
+    let same : o ∷ equationsFor v qs ≡ q ∷ more = sym (keep-pass (λ (x : Equation). eqb (x .left) v) o qs (eq-eqb (o .left) v (sym h))) ∙ e in
+    let this : o ≡ q = cc in
+    ap (bit (valued c (o ∷ qs) s)) h ∙ valued-first c o qs s (λ i. n (subst (λ (u : ℕ). c ∋ u) (sym h) i)) ∙ ap (λ (x : Equation). value s (x .right)) this)
+    (λ m.
+    let later : equationsFor v qs ≡ q ∷ more = sym (keep-fail (λ (x : Equation). eqb (x .left) v) o qs (ne-eqb (o .left) v (λ h. m (sym h)))) ∙ e in
+    by-cases
+    (member-dec c (o .left))
+    (λ i. ap (λ (t : ℕ). bit t v) (valued-known c o qs s i) ∙ valued-by-first c qs s v q more n later)
+    (λ j. valued-later c o qs s v m j ∙ valued-by-first (union c (only (o .left))) qs s v q more (outside c (o .left) v n m) later))
+
+-- Every other variable takes its first equation's value.
+pub step-first : (d : Deck) (c t s v : ℕ) (q : Equation) (more : List Equation)
+    → t ⊆ c → (c ∋ v → ⊥) → equationsFor v (d .equations) ≡ q ∷ more → bit (stepWith d c t s) v ≡ value s (q .right)
+step-first d c t s v q more f n e = step-off d c t s v f n ∙ valued-by-first c (d .equations) s v q more n e
 
 -- The step stays within the variables.
 pub step-within : (L : Limits) (d : Deck) (c t s : ℕ) → Accepted L d → t ⊆ d .vars → stepWith d c t s ⊆ d .vars
@@ -309,7 +329,7 @@ extended-run L d e a w r h s m q =
     inside k = subset-trans (r k) (coneOf d e) (d .vars) (h .within k) (cone-in L d (written e) a w)
 
     first : (v : ℕ) → coneOf d e ∋ v → bit s v ≡ bit (r 0) v
-    first v i = sym (ap (λ (t : ℕ). bit t v) q ∙ meet-in s (coneOf d e) v i)
+    first v i = sym (ap (λ (t : ℕ). bit t v) q ∙ bit-meet-in s (coneOf d e) v i)
 
 -- A looping run of a piece extends to a looping run of the whole deck that agrees with it on the cone at every place.
 pub run-extended : (L : Limits) (d : Deck) (e : Expr) → Accepted L d → written e ⊆ d .vars → (r : Run) → RunOf (piece d e) r → Loops r
@@ -321,10 +341,10 @@ run-extended L d e a w r h l =
       extended d (coneOf d e) r s,
       run,
       extended-loops d (coneOf d e) r s (d .vars) (run .within) l,
-      extended-agrees d (coneOf d e) r s (λ v i. sym (ap (λ (t : ℕ). bit t v) q ∙ meet-in s (coneOf d e) v i)),
+      extended-agrees d (coneOf d e) r s (λ v i. sym (ap (λ (t : ℕ). bit t v) q ∙ bit-meet-in s (coneOf d e) v i)),
     )
 
--- ---- demand 3
+-- ---- runs that break the property
 
 -- Runs that agree on the cone give the conjunct the same truth.
 cone-truth : (d : Deck) (e : Expr) (r r′ : Run) → ((k v : ℕ) → coneOf d e ∋ v → bit (r k) v ≡ bit (r′ k) v) → Holds r e 0 ↔ Holds r′ e 0
@@ -353,7 +373,7 @@ broken-piece L d e a w = (there, back)
       seen r (coneOf d e),
       run-seen L d e a w r h,
       loops-seen r (coneOf d e) l,
-      λ k. b (cone-truth d e (seen r (coneOf d e)) r (λ i v j. meet-in (r i) (coneOf d e) v j) .0 k),
+      λ k. b (cone-truth d e (seen r (coneOf d e)) r (λ i v j. bit-meet-in (r i) (coneOf d e) v j) .0 k),
     )
 
     back : Broken (piece d e) → (r : Run) × RunOf d r × Loops r × Breaks r e
@@ -362,6 +382,8 @@ broken-piece L d e a w = (there, back)
 conjunct-in : (L : Limits) (d : Deck) (e : Expr) → Accepted L d → e among split (d .property) → written e ⊆ d .vars
 conjunct-in L d e a m =
     subset-trans (written e) (written (d .property)) (d .vars) (each-at (PartOf (d .property)) (split (d .property)) e (split-parts (d .property)) m .writes) (a .property-in)
+
+-- ---- demand 3
 
 -- Each reduced deck keeps the least set of variables that holds its property's variables and every variable written in an equation of one it holds.
 pub demand-3-least : (d : Deck) → Each (λ (q : Deck). IsCone (d .equations) (written (q .property)) (q .vars)) (pieces d)

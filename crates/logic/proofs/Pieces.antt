@@ -1,28 +1,24 @@
 -- The conjuncts of a property, and what a piece of an accepted deck is: an accepted deck over its conjunct's cone.
-use mathlib.Core.Path.{_≡_, refl, sym, ap, subst}
+use mathlib.Core.Path.{_≡_, refl, sym, ap, ap₂, _∙_, subst}
 use mathlib.Core.Logic.{_↔_}
 use mathlib.Core.Bool.{Bool, true, false}
 use mathlib.Core.List.{List, [], _∷_, map}
 use Prim.Native.Nat.{ℕ, _≤_}
 use native.Mathlib.Omega.{arith}
 use native.Mathlib.Nat.{le-refl}
-use lib.Bits.{and-le-l}
+use lib.Dec.{eqb}
+use borrow.Author.Tests.{eqb-true}
 use lib.ListN.{length, length-append, length-map}
 use Rattle.lists.specs.Lists.{Each, Some, _among_, keep, firsts}
-use Rattle.lists.proofs.Laws.{each-at, each-all, each-map, some-find, find-some, each-append, append-each, each-of-map, among-of-map, map-among, firsts-distinct, length-firsts, among-firsts, firsts-among, among-keep, keep-among, each-keep, length-keep}
+use Rattle.lists.proofs.Laws.{each-at, each-all, each-map, some-find, find-some, each-append, append-each, each-of-map, among-of-map, map-among, firsts-distinct, length-firsts, among-firsts, firsts-among, among-keep, keep-among, each-keep, length-keep, keep-keep}
 use Rattle.sets.specs.Sets.{_∋_, _⊆_, has, meet}
-use Rattle.sets.proofs.Laws.{has-true, true-has, subset-refl, subset-trans, subset-antisym, union-left, union-right, meet-right, meet-most}
+use Rattle.sets.proofs.Laws.{subset-le, has-true, true-has, subset-refl, subset-trans, union-left, union-right, meet-right}
 use Rattle.logic.specs.Expressions.{Expr, Const, Var, One, Two, And, Or, Until, Weak, nodes, levels, written}
 use Rattle.logic.specs.Decks.{Equation, Deck, Limits, totalNodes, Rising, Allowed, Accepted}
 use Rattle.logic.specs.Meaning.{Run, Holds}
-use Rattle.logic.specs.Cones.{IsCone}
+use Rattle.logic.specs.Cones.{IsCone, cone}
 use Rattle.logic.specs.Pieces.{split, coneOf, projected, equationsOf, piece, pieces}
-use Rattle.logic.proofs.Cone.{Carried, cone-is, cone-closed, cone-in}
-
--- general: a set is no less than what it holds
-
-pub subset-le : (s t : ℕ) → s ⊆ t → s ≤ t
-subset-le s t f = subst (λ (u : ℕ). u ≤ t) (subset-antisym (meet t s) s (meet-right t s) (meet-most t s s f (subset-refl s))) (and-le-l t s)
+use Rattle.logic.proofs.Cone.{Carried, equationsFor, cone-agree, cone-is, cone-closed, cone-in}
 
 -- ---- the split
 
@@ -203,3 +199,22 @@ pieces-accepted L d a =
     (each-map (PartOf (d .property)) (λ (e : Expr). Accepted L (piece d e)) (split (d .property))
     (λ e h. piece-accepted L d e a (subset-trans (written e) (written (d .property)) (d .vars) (h .writes) (a .property-in)) (omega (arith, h .fewer, a .property-nodes)) (omega (arith, h .shallower, a .property-levels)))
     (split-parts (d .property)))
+
+-- ---- agreeing decks, equal pieces
+
+-- Equal equations of the cone's variables make equal cones.
+pub cone-same : (qs qs′ : List Equation) (s : ℕ) → equationsOf (cone qs s) qs ≡ equationsOf (cone qs s) qs′ → cone qs′ s ≡ cone qs s
+cone-same qs qs′ s e = cone-agree qs qs′ s (λ v i. sym (one v i qs) ∙ ap (equationsFor v) e ∙ one v i qs′)
+  where
+    one : (v : ℕ) → cone qs s ∋ v → (os : List Equation) → equationsFor v (equationsOf (cone qs s) os) ≡ equationsFor v os
+    one v i os =
+        keep-keep (λ (q : Equation). has (cone qs s) (q .left)) (λ (q : Equation). eqb (q .left) v) os
+        (λ q h. has-true (cone qs s) (q .left) (subst (λ (u : ℕ). cone qs s ∋ u) (sym (eqb-true (q .left) v h)) i))
+
+-- Decks that agree on the equations of a piece's cone and, in order, on the initial values of that cone have that piece in common.
+pub piece-same : (d d′ : Deck) (e : Expr) → equationsOf (coneOf d e) (d .equations) ≡ equationsOf (coneOf d e) (d′ .equations)
+    → map (λ (s : ℕ). meet s (coneOf d e)) (d .inits) ≡ map (λ (s : ℕ). meet s (coneOf d e)) (d′ .inits) → piece d e ≡ piece d′ e
+unfolding piece
+piece-same d d′ e q i =
+    ap₂ (λ (ss : List ℕ) (qs : List Equation). record { vars = coneOf d e; inits = firsts ss; equations = qs; property = e }) i q
+    ∙ ap (λ (c : ℕ). record { vars = c; inits = projected c (d′ .inits); equations = equationsOf c (d′ .equations); property = e }) (sym (cone-same (d .equations) (d′ .equations) (written e) q))

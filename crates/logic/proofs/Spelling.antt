@@ -1,18 +1,19 @@
 -- Card spellings: an expression as it is typed can be read back in one way only, as long as no digit follows it.
 use mathlib.Core.Path.{_≡_, refl, sym, ap, _∙_}
-use mathlib.Core.Logic.{_⊎_, inl, inr, ⊎-elim}
+use mathlib.Core.Logic.{_⊎_, inl, inr}
 use mathlib.Core.Bool.{Bool, true, false}
 use mathlib.Core.List.{List, [], _∷_, _++_, append-assoc, append-nil, head-eq-of-cons-eq, tail-eq-of-cons-eq}
-use Prim.Native.Nat.{ℕ, zero, suc, _+_, _/_, _%_, _<_, _≤_}
+use Prim.Native.Nat.{ℕ, _+_, _/_, _%_, _<_, _≤_}
 use Prim.Native.Char.{code as character}
 use native.Mathlib.Omega.{arith}
 use native.Mathlib.Decide.{decLt}
 use borrow.Author.Tests.{lt-ltb, le-ltb}
-use lib.Dec.{ltb, eqb}
+use lib.Dec.{eqb}
 use lib.ListN.{length, length-append}
 use Rattle.lists.specs.Lists.{Each, _among_}
+use Rattle.lists.proofs.Laws.{each-at, each-map, each-append}
 use Rattle.logic.specs.Expressions.{Expr, Const, Var, One, Two, Op1, Op2, Not, Next, Future, Always, And, Or, Until, Weak, nodes, constSign, sign1, sign2, decimal, spelling}
-use Rattle.logic.proofs.Codes.{Below, each-append}
+use Rattle.logic.proofs.Codes.{Below}
 
 -- ---- numbers
 
@@ -188,12 +189,7 @@ Typed c = Digit c ⊎ (c among marks)
 
 pub typed-visible : (c : ℕ) → Typed c → (32 < c) × (c < 127)
 typed-visible c (inl d) = omega arith
-typed-visible c (inr m) = mark marks (omega arith) c m
-  where
-    mark : (ms : List ℕ) → Each (λ (m : ℕ). (32 < m) × (m < 127)) ms → (c : ℕ) → c among ms → (32 < c) × (c < 127)
-    mark [] f c n = absurd n
-    mark (m ∷ ms) f c (inl e) = omega arith
-    mark (m ∷ ms) f c (inr n) = mark ms (f .1) c n
+typed-visible c (inr m) = each-at (λ (k : ℕ). (32 < k) × (k < 127)) marks c (omega arith) m
 
 typed-const : (b : Bool) → Typed (constSign b)
 typed-const false = inl (omega arith)
@@ -227,6 +223,10 @@ spelling-typed (Two o a b) n = (
   search (inl, inr) depth 15,
   each-append Typed (spelling a) _ (spelling-typed a (n .0)) (typed-two o, each-append Typed (spelling b) _ (spelling-typed b (n .1)) (search (inl, inr) depth 15, tt)),
 )
+
+-- Every character is a visible one: none is a blank.
+pub spelling-visible : (e : Expr) → Below 100 e → Each (λ (c : ℕ). (32 < c) × (c < 127)) (spelling e)
+spelling-visible e n = each-map Typed (λ (c : ℕ). (32 < c) × (c < 127)) (spelling e) typed-visible (spelling-typed e n)
 
 pub nodes-spelling : (e : Expr) → nodes e ≤ length (spelling e)
 unfolding nodes spelling

@@ -7,7 +7,6 @@ use native.Mathlib.Omega.{arith}
 use native.Mathlib.Nat.{div-eq-of-lt, zero-div, mod-lt, pow-suc, lt-of-lt-of-le, div-add-mod', mod-eq-of-lt, mul-mod-left, min-le-left, max-add-min, add-comm}
 use native.Mathlib.Decide.{decLt, ℕ-discrete}
 use borrow.Author.Tests.{eqb-true, eqb-false, eq-eqb, ne-eqb}
-use lib.Dec.{eqb}
 use lib.Arith.{bin-ind}
 use lib.Pow.{pow-pos, pow-lt, pow-mono, pow-add, shl-shr, shr-shr}
 use lib.Bits.{and-step, or-step, and-shr, or-shr, and-le-l, and-le-r, and-comm, and-self, or-lt}
@@ -202,9 +201,6 @@ without-in s t i h n = omega (arith, bit-without s t i, h, not-in t i n)
 
 -- ---- subset as a test, and subset as order
 
-pub meet-le : (s t m : ℕ) → m ≡ meet s t → m ≤ s
-meet-le s t m e = omega (arith, and-le-l s t)
-
 pub subset-meet : (s t : ℕ) → s ⊆ t → meet s t ≡ s
 subset-meet s t f = subset-antisym (meet s t) s (meet-left s t) (meet-most s t s (subset-refl s) f)
 
@@ -231,9 +227,6 @@ inside-false s t n = ne-eqb (meet s t) s (λ e. n (meet-subset s t e))
 
 pub false-inside : (s t : ℕ) → inside s t ≡ false → s ⊆ t → ⊥
 false-inside s t e f = eqb-false (meet s t) s e (subset-meet s t f)
-
-pub meet-inside : (s t m : ℕ) → m ≡ meet s t → eqb m s ≡ inside s t
-meet-inside s t m e = ap (λ (x : ℕ). eqb x s) e
 
 pub subset-dec : (s t : ℕ) → Dec (s ⊆ t)
 subset-dec s t = by-cases (ℕ-discrete (meet s t) s) (λ e. yes (meet-subset s t e)) (λ n. no (λ f. n (subset-meet s t f)))
@@ -272,6 +265,9 @@ only-mod k v l = mod-eq-of-lt (pow-lt l)
 
 pub only-within : (v s : ℕ) → s ≡ only v % 2 ^ width → v < width → s ≡ only v
 only-within v s e l = e ∙ only-mod width v l
+
+pub union-within : (s v t u : ℕ) → u ≡ union s t → t ≡ only v % 2 ^ width → v < width → u ≡ union s (only v)
+union-within s v t u e o l = e ∙ ap (union s) (only-within v t o l)
 
 pub only-mod-high : (k v : ℕ) → k ≤ v → 0 ≡ only v % 2 ^ k
 only-mod-high k v l =
@@ -314,12 +310,11 @@ pub size-only : (v : ℕ) → size (only v) ≡ 1
 unfolding ones
 size-only v = let e : 2 ^ v ≡ 1 * 2 ^ v + 0 = omega arith in ap size e ∙ ones-cat v 1 0 (pow-pos v)
 
-pub meet-only : (s v : ℕ) → (s ∋ v → ⊥) → meet s (only v) ≡ 0
-meet-only s v n = sym (all-zero (meet s (only v)) (λ i. not-in (meet s (only v)) i (λ m. n (subst (λ (j : ℕ). s ∋ j) (only-bit v i (meet-right s (only v) i m)) (meet-left s (only v) i m)))))
+pub meet-member : (s v : ℕ) → s ∋ v → meet s (only v) ≡ only v
+meet-member s v h = and-comm s (only v) ∙ subset-meet (only v) s (only-least v s h)
 
--- A new variable.
-pub size-new : (s v : ℕ) → (s ∋ v → ⊥) → size (union s (only v)) ≡ size s + 1
-size-new s v n = omega (arith, size-union-meet s (only v), ap size (meet-only s v n), size-zero, size-only v)
+pub meet-none : (s v : ℕ) → (s ∋ v → ⊥) → meet s (only v) ≡ 0
+meet-none s v n = sym (all-zero (meet s (only v)) (λ i. not-in (meet s (only v)) i (λ m. n (subst (λ (j : ℕ). s ∋ j) (only-bit v i (meet-right s (only v) i m)) (meet-left s (only v) i m)))))
 
 -- A set is what it has without t and what it shares with t.
 pub without-meet-union : (s t : ℕ) → union (without s t) (meet s t) ≡ s
@@ -335,6 +330,13 @@ without-meet s t =
 
 pub size-without : (s t : ℕ) → size (without s t) + size (meet s t) ≡ size s
 size-without s t = omega (arith, size-union-meet (without s t) (meet s t), ap size (without-meet-union s t), ap size (without-meet s t), size-zero)
+
+-- A new variable is one more, one taken out is one less.
+pub size-new : (s v : ℕ) → (s ∋ v → ⊥) → size (union s (only v)) ≡ size s + 1
+size-new s v n = omega (arith, size-union-meet s (only v), ap size (meet-none s v n), size-zero, size-only v)
+
+pub size-less : (s v : ℕ) → s ∋ v → size (without s (only v)) + 1 ≡ size s
+size-less s v h = omega (arith, size-without s (only v), ap size (meet-member s v h), size-only v)
 
 pub size-subset : (s t : ℕ) → s ⊆ t → size s ≤ size t
 size-subset s t f = omega (arith, size-without t s, ap size (and-comm t s ∙ subset-meet s t f))
@@ -392,7 +394,10 @@ pub lowest-some : (s : ℕ) → 0 < s → (v : ℕ) × Lowest s v
 lowest-some s p = (trailingZeros s s, trailing-lowest s s p (lt-pow s))
 
 pub without-only : (s v : ℕ) → s ∋ v → without s (only v) ≡ s - only v
-without-only s v h = ap (λ (m : ℕ). s - m) (and-comm s (only v) ∙ subset-meet (only v) s (only-least v s h))
+without-only s v h = ap (λ (m : ℕ). s - m) (meet-member s v h)
+
+pub without-falls : (s v : ℕ) → s ∋ v → without s (only v) < s
+without-falls s v h = omega (arith, without-only s v h, subset-le (only v) s (only-least v s h), pow-pos v)
 
 meet-less-odd : (s : ℕ) → s % 2 ≡ 1 → meet s (s - 1) ≡ s - 1
 meet-less-odd s e =

@@ -57,6 +57,6 @@ Lowest s i = (s ∋ i) × ((j : ℕ) → j < i → s ∋ j → ⊥)
 abbrev pub width : ℕ
 width = 64
 
--- The lowest variable of s; the width where s has none.
+-- The lowest variable of s below the width; the width where there is none.
 abbrev pub lowestOf : ℕ → ℕ
 lowestOf s = trailingZeros width s

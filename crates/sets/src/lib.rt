@@ -40,20 +40,21 @@ pub fn meet(s: u64, t: u64) -> u64
     s & t
 }
 
-// The variables of the first set that are not in the second.
-pub fn without(s: u64, t: u64) -> u64
-    ensures { λ r. ⌜ r ≡ without s t ⌝ }
+// The variables of the set without those that are gone.
+pub fn without(s: u64, gone: u64) -> u64
+    ensures { λ r. ⌜ r ≡ without s gone ⌝ }
 {
-    s - meet(s, t)
+    s - (s & gone)
 }
 
-// Whether every variable of the first set is in the second.
-pub fn subset(s: u64, t: u64) -> bool
-    ensures { λ r. ⌜ r ≡ inside s t ⌝ }
+// Whether every variable of the set is among all.
+pub fn subset(s: u64, all: u64) -> bool
+    ensures { λ r. ⌜ r ≡ inside s all ⌝ }
 {
-    meet(s, t) == s
+    (s & all) == s
 }
 
+// A count of digits as a number of variables.
 fn wide(n: u32) -> usize
     ensures { λ r. ⌜ r ≡ n ⌝ }
 {

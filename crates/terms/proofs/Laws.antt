@@ -1,23 +1,20 @@
 -- How a pass over nodes begins, goes on by one node, and ends.
-use mathlib.Core.Path.{_≡_, refl, sym, ap, ap₂, _∙_, subst}
-use mathlib.Core.Bool.{Bool, true, false, not}
-use mathlib.Core.List.{List, [], _∷_, _++_, append-assoc, append-nil, head-eq-of-cons-eq, tail-eq-of-cons-eq}
-use Prim.Native.Nat.{ℕ, zero, suc, _+_, _-_, _*_, _%_, _^_, _<_, _≤_, max}
+use mathlib.Core.Path.{_≡_, refl, sym, ap, ap₂, _∙_}
+use mathlib.Core.Bool.{Bool, true, false}
+use mathlib.Core.List.{List, [], _∷_}
+use Prim.Native.Nat.{ℕ, suc, _+_, _-_, _%_, _^_, _<_, _≤_}
 use native.Mathlib.Omega.{arith}
-use native.Mathlib.Nat.{one-mul}
 use native.Mathlib.Numerals.{add-one}
-use borrow.Author.Tests.{lt-ltb, le-ltb, lt-leb, le-leb, ltb-true, ltb-false}
-use lib.Dec.{ltb, leb, eqb, lit<}
+use native.Mathlib.Decide.{decLt}
+use borrow.Author.Tests.{lt-ltb, le-ltb}
+use lib.Dec.{ltb}
 use lib.ListN.{length, take, drop, getD, drop-of-length-le}
-use lib.Seq.{take-nil, drop-cons, take-at, drop-at, drop-drop}
-use lib.Pow.{shl-exact}
-use lib.Bits.{or-zero-l, or-zero-r, or-lt}
-use Rattle.sets.specs.Sets.{only, union}
-use Rattle.sets.proofs.Laws.{ext, bit-union}
-use Rattle.logic.specs.Expressions.{Expr, Const, Var, One, Two, Op1, Op2, Not, Next, Future, Always, And, Or, Until, Weak, nodes, levels, written, Plain, constNode, node1, node2, code}
-use Rattle.logic.specs.Decks.{base}
-use Rattle.logic.proofs.Codes.{Below, Narrow, below-more, length-code}
-use Rattle.terms.specs.Nodes.{constant?, placesOf, temporal?, spans, part, variableOf, variablesOf, someTemporal, plain?, Stands}
+use lib.Seq.{take-nil, drop-cons}
+use lib.Bits.{or-zero-l, or-zero-r}
+use Rattle.sets.specs.Sets.{only, union, width}
+use Rattle.sets.proofs.Laws.{ext, bit-union, only-mod, only-mod-high}
+use Rattle.logic.specs.Expressions.{nodes, written}
+use Rattle.terms.specs.Nodes.{constant?, placesOf, temporal?, spans, part, variableOf, variablesOf, someTemporal}
 
 -- general:
 pub union-assoc : (s t u : ℕ) → union s (union t u) ≡ union (union s t) u
@@ -121,21 +118,37 @@ module _ (cs : List ℕ) (i j : ℕ) where
 
 -- ---- variables written
 
-pub variable-low : (c : ℕ) → c < 64 → 1 * 2 ^ c % 2 ^ 64 ≡ variableOf c
-unfolding variableOf
-variable-low c h = shl-exact 1 c 64 (lit< tt) (omega arith) ∙ one-mul _ ∙ simp (lt-ltb c 64 h, variableOf)
-
 pub variable-high : (c : ℕ) → 64 ≤ c → 0 ≡ variableOf c
 unfolding variableOf
 variable-high c h = simp (le-ltb c 64 h, variableOf)
+
+pub variable-low : (c : ℕ) → c < 64 → variableOf c ≡ only c
+unfolding variableOf
+variable-low c h = simp (lt-ltb c 64 h, variableOf)
+
+only-variable : (c : ℕ) → only c % 2 ^ width ≡ variableOf c
+only-variable c = go (decLt c 64)
+  where
+    go : Dec (c < 64) → only c % 2 ^ width ≡ variableOf c
+    go (yes h) = only-mod 64 c h ∙ sym (variable-low c h)
+    go (no h) = sym (only-mod-high 64 c (omega arith)) ∙ variable-high c (omega arith)
 
 module _ (cs : List ℕ) (i j all set : ℕ) where
   pub written-start : variablesOf cs ≡ union 0 (variablesOf cs)
   written-start = sym (or-zero-l (variablesOf cs))
 
-  pub written-on : (v : ℕ) → i < j → i < length cs → all ≡ union set (variablesOf (part i j cs)) → v ≡ variableOf (getD cs i 0) → all ≡ union (union set v) (variablesOf (part (i + 1) j cs))
+  pub written-on : (n v u : ℕ)
+      → i < j
+      → i < length cs
+      → all ≡ union set (variablesOf (part i j cs))
+      → n ≡ getD cs i 0
+      → v ≡ only n % 2 ^ width
+      → u ≡ union set v
+      → all ≡ union u (variablesOf (part (i + 1) j cs))
   unfolding variablesOf
-  written-on v h l e q = e ∙ ap (λ (r : List ℕ). union set (variablesOf r)) (part-next cs i j h l) ∙ rw (← q) (union-assoc set v (variablesOf (part (i + 1) j cs)))
+  written-on n v u h l e p q r =
+      let w : v ≡ variableOf (getD cs i 0) = q ∙ ap (λ (k : ℕ). only k % 2 ^ width) p ∙ only-variable (getD cs i 0) in
+      e ∙ ap (λ (r : List ℕ). union set (variablesOf r)) (part-next cs i j h l) ∙ rw (← w) (union-assoc set v (variablesOf (part (i + 1) j cs))) ∙ ap (λ (k : ℕ). union k (variablesOf (part (i + 1) j cs))) (sym r)
 
   pub written-off : length cs ≤ i → all ≡ union set (variablesOf (part i j cs)) → set ≡ all
   unfolding variablesOf

@@ -1,20 +1,18 @@
 -- What the passes over nodes give where the nodes are the code of an expression.
 use mathlib.Core.Path.{_≡_, refl, sym, ap, ap₂, _∙_}
 use mathlib.Core.Bool.{Bool, true, false, not, _&&_, _||_, false≢true}
-use mathlib.Core.List.{List, [], _∷_, _++_, append-assoc, append-nil, head-eq-of-cons-eq, tail-eq-of-cons-eq}
-use Prim.Native.Nat.{ℕ, zero, suc, _+_, _-_, _<_, _≤_}
+use mathlib.Core.List.{List, [], _∷_, _++_, append-assoc}
+use Prim.Native.Nat.{ℕ, suc, _+_, _-_, _<_, _≤_}
 use native.Mathlib.Omega.{arith}
-use native.Mathlib.Numerals.{add-one}
-use borrow.Author.Tests.{lt-ltb, le-ltb, lt-leb, le-leb}
-use lib.Dec.{ltb, leb}
+use borrow.Author.Tests.{lt-ltb, lt-leb}
 use lib.ListN.{length, take, drop, getD, length-append, length-drop}
 use lib.Seq.{take-at, drop-at, drop-drop, getD-drop}
 use lib.Bits.{or-zero-l, or-zero-r}
-use Rattle.sets.specs.Sets.{only, union}
-use Rattle.logic.specs.Expressions.{Expr, Const, Var, One, Two, Op1, Op2, Not, Next, Future, Always, And, Or, Until, Weak, nodes, levels, written, Plain, constNode, node1, node2, code}
+use Rattle.sets.specs.Sets.{union}
+use Rattle.logic.specs.Expressions.{Expr, Const, Var, One, Two, Op1, Op2, Not, Next, Future, Always, And, Or, Until, Weak, nodes, written, Plain, constNode, node1, node2, code}
 use Rattle.logic.proofs.Codes.{Below, Narrow, code-unique, length-code, nodes-some}
 use Rattle.terms.specs.Nodes.{placesOf, temporal?, spans, part, variableOf, variablesOf, someTemporal, plain?, Stands}
-use Rattle.terms.proofs.Laws.{union-assoc, places-leaf, spans-none, variable-high}
+use Rattle.terms.proofs.Laws.{union-assoc, spans-none, variable-low, variable-high}
 
 -- ---- how many operands a node has
 
@@ -124,10 +122,6 @@ variable-const : (b : Bool) → variableOf (constNode b) ≡ 0
 variable-const false = sym (variable-high 256 (omega arith))
 variable-const true = sym (variable-high 257 (omega arith))
 
-variable-var : (v : ℕ) → v < 64 → variableOf v ≡ only v
-unfolding variableOf
-variable-var v h = simp (lt-ltb v 64 h, variableOf)
-
 node-high-1 : (o : Op1) → 64 ≤ node1 o
 node-high-1 Not = omega arith
 node-high-1 Next = omega arith
@@ -143,7 +137,7 @@ node-high-2 Weak = omega arith
 pub variables-code : (e : Expr) → Below 64 e → variablesOf (code e) ≡ written e
 unfolding variablesOf code written
 variables-code (Const b) h = or-zero-r (variableOf (constNode b)) ∙ variable-const b
-variables-code (Var v) h = or-zero-r (variableOf v) ∙ variable-var v h
+variables-code (Var v) h = or-zero-r (variableOf v) ∙ variable-low v h
 variables-code (One o e) h = ap₂ union (sym (variable-high (node1 o) (node-high-1 o))) (variables-code e h) ∙ or-zero-l (written e)
 variables-code (Two o a b) h =
     ap₂ union (sym (variable-high (node2 o) (node-high-2 o))) (variables-append (code a) (code b) ∙ ap₂ union (variables-code a (h .0)) (variables-code b (h .1)))

@@ -2,33 +2,35 @@
 use mathlib.Core.Path.{_≡_}
 use mathlib.Core.Bool.{Bool, true, false, _&&_, _||_}
 use mathlib.Core.List.{List, [], _∷_, _++_}
-use Prim.Native.Nat.{ℕ, zero, suc, _+_, _-_, _<_, _≤_}
-use lib.Dec.{ltb, leb, eqb}
+use Prim.Native.Nat.{ℕ, zero, suc, _+_, _-_}
+use lib.Dec.{ltb, leb}
 use lib.ListN.{take, drop}
-use Rattle.sets.specs.Sets.{only, union}
-use Rattle.logic.specs.Expressions.{Expr, Const, Var, One, Two, Not, Next, Future, Always, And, Or, Until, Weak, nodes, levels, code}
-use Rattle.logic.specs.Decks.{base}
+use Rattle.sets.specs.Sets.{only, union, width}
+use Rattle.logic.specs.Expressions.{Expr, Const, Var, One, Two, Not, Next, Future, Always, And, Or, Until, Weak, constNode, node1, node2, code}
 use Rattle.logic.proofs.Codes.{Narrow}
 
 -- Whether the node is a variable.
 abbrev pub variable? : ℕ → Bool
-variable? c = ltb c 256
+variable? c = ltb c (constNode false)
 
 -- How many operands the node has: a variable or constant none, `~ X F G` one, `& + U W` two.
 unfoldable pub placesOf : ℕ → ℕ
 placesOf c =
-    elim (ltb c 258) [
+    elim (ltb c (node1 Not)) [
       | true ↦ 0
-      | false ↦ elim (ltb c 259) [ true ↦ 1 | false ↦ elim (ltb c 261) [ true ↦ 2 | false ↦ elim (ltb c 264) [ true ↦ 1 | false ↦ 2 ] ] ]
+      | false ↦ elim (ltb c (node2 And)) [
+        | true ↦ 1
+        | false ↦ elim (ltb c (node1 Next)) [ true ↦ 2 | false ↦ elim (ltb c (node2 Until)) [ true ↦ 1 | false ↦ 2 ] ]
+      ]
     ]
 
 -- Whether the node is `0` or `1`.
 unfoldable pub constant? : ℕ → Bool
-constant? c = elim (ltb c 256) [ true ↦ false | false ↦ ltb c 258 ]
+constant? c = elim (variable? c) [ true ↦ false | false ↦ ltb c (node1 Not) ]
 
 -- Whether the node is one of `X F G U W`.
 abbrev pub temporal? : ℕ → Bool
-temporal? c = leb 261 c
+temporal? c = leb (node1 Next) c
 
 -- The nodes that the first n expressions of the list take; all of them, where the list ends before.
 unfoldable pub spans : ℕ → List ℕ → ℕ
@@ -40,9 +42,9 @@ spans (suc n) (c ∷ cs) = suc (spans (n + placesOf c) cs)
 abbrev pub part : ℕ → ℕ → List ℕ → List ℕ
 part i j cs = take (j - i) (drop i cs)
 
--- The set of the variable that the node is; of any other node nothing.
+-- The set of the variable that the node is; nothing of any other node, nor of a variable for which a word has no room.
 unfoldable pub variableOf : ℕ → ℕ
-variableOf c = elim (ltb c (base .variables)) [ true ↦ only c | false ↦ 0 ]
+variableOf c = elim (ltb c width) [ true ↦ only c | false ↦ 0 ]
 
 -- The set of the variables among the nodes.
 unfoldable pub variablesOf : List ℕ → ℕ

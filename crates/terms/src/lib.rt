@@ -1,10 +1,12 @@
 // Expressions in memory: nodes in prefix order.
+use sets::union;
+use sets::variable;
 ghost use mathlib.Core.Path.{_≡_};
 ghost use Prim.Native.Nat.{ℕ, _+_, _-_, _<_, _≤_, max};
 ghost use lib.Dec.{eqb};
 ghost use lib.ListN.{length, drop};
 ghost use Rattle.logic.specs.Expressions.{Expr, levels as depth};
-ghost use Rattle.terms.specs.Nodes.{variable?, constant?, placesOf, temporal?, spans, part, variableOf, variablesOf, someTemporal, Stands};
+ghost use Rattle.terms.specs.Nodes.{variable?, constant?, placesOf, temporal?, spans, part, variablesOf, someTemporal, Stands};
 ghost use Rattle.terms.specs.Reaches.{Reaches};
 
 // A node below this number is the variable of that number.
@@ -29,9 +31,6 @@ pub const ALWAYS: u16 = 263;
 pub const UNTIL: u16 = 264;
 
 pub const WEAK: u16 = 265;
-
-// The variables that a set can hold.
-pub const VARIABLES: u16 = 64;
 
 // Whether the node is a variable.
 pub fn is_variable(node: u16) -> bool
@@ -111,17 +110,15 @@ pub fn second(nodes: &[u16], at: usize) -> usize
     requires { ⌜ at < length (now nodes) ⌝ }
     ensures { λ r. ⌜ r ≡ at + 1 + spans 1 (drop (at + 1) (now (nodes .entry))) ⌝ }
 {
-    end_of(nodes, at + 1)
+    let first = at + 1;
+    end_of(nodes, first)
 }
 
-// The set of the variable that the node is.
-fn variable_of(node: u16) -> u64
-    ensures { λ r. ⌜ r ≡ variableOf node ⌝ }
+// The node as the number of a variable.
+fn number(node: u16) -> usize
+    ensures { λ r. ⌜ r ≡ node ⌝ }
 {
-    if node < VARIABLES {
-        return 1u64 << node;
-    }
-    0
+    node as usize
 }
 
 // The set of the variables written from `at` up to `end`.
@@ -134,7 +131,7 @@ pub fn written_in(nodes: &[u16], at: usize, end: usize) -> u64
         if nodes.len() <= i {
             return set;
         }
-        set = set | variable_of(nodes[i]);
+        set = union(set, variable(number(nodes[i])));
         i += 1;
     }
     set

@@ -23,7 +23,6 @@ abbrev reach-of-below : ℕ → In 1 reach-of-kinds.ps
 reach-of-below t =
     and 1 reach-of-kinds.ps (falls 1 reach-of-kinds.ps _<_ μ-reach-of t) reach-of.Pre
 
--- src/lib.rt:180:9
 reach-of-returns : (t : ℕ) → reach-of-lts.Need-returns (
   places-reads.Asked,
   places-reads.Learnt,
@@ -34,7 +33,6 @@ reach-of-returns : (t : ℕ) → reach-of-lts.Need-returns (
 ) (reach-of-at t) reach-of.Post
 reach-of-returns t c = search (needs, laws.reach-off)
 
--- src/lib.rt:182:27
 reach-of-mul-places : (t : ℕ) → reach-of-lts.Need-mul-places (
   places-reads.Asked,
   places-reads.Learnt,
@@ -45,7 +43,6 @@ reach-of-mul-places : (t : ℕ) → reach-of-lts.Need-mul-places (
 ) (reach-of-at t) reach-of.Post
 reach-of-mul-places t c = search needs
 
--- src/lib.rt:182:27
 reach-of-shared-slice-read-places : (t : ℕ) → reach-of-lts.Need-shared-slice-read-places (
   places-reads.Asked,
   places-reads.Learnt,
@@ -56,7 +53,6 @@ reach-of-shared-slice-read-places : (t : ℕ) → reach-of-lts.Need-shared-slice
 ) (reach-of-at t) reach-of.Post
 reach-of-shared-slice-read-places t c = search needs
 
--- src/lib.rt:182:9
 reach-of-places-requires : (t : ℕ) → reach-of-lts.Need-places-requires (
   places-reads.Asked,
   places-reads.Learnt,
@@ -67,7 +63,6 @@ reach-of-places-requires : (t : ℕ) → reach-of-lts.Need-places-requires (
 ) (reach-of-at t) reach-of.Post
 reach-of-places-requires t c κs = search needs
 
--- src/lib.rt:185:18
 reach-of-add-t11 : (t : ℕ) → reach-of-lts.Need-add-t11 (
   places-reads.Asked,
   places-reads.Learnt,
@@ -78,7 +73,6 @@ reach-of-add-t11 : (t : ℕ) → reach-of-lts.Need-add-t11 (
 ) (reach-of-at t) reach-of.Post
 reach-of-add-t11 t c = omega arith
 
--- src/lib.rt:184:9
 reach-of-returns-2 : (t : ℕ) → reach-of-lts.Need-returns-2 (
   places-reads.Asked,
   places-reads.Learnt,
@@ -89,7 +83,6 @@ reach-of-returns-2 : (t : ℕ) → reach-of-lts.Need-returns-2 (
 ) (reach-of-at t) reach-of.Post
 reach-of-returns-2 t c = search (needs, laws.reach-leaf)
 
--- src/lib.rt:189:29
 reach-of-add-reach-of : (t : ℕ) → reach-of-lts.Need-add-reach-of (
   places-reads.Asked,
   places-reads.Learnt,
@@ -100,7 +93,6 @@ reach-of-add-reach-of : (t : ℕ) → reach-of-lts.Need-add-reach-of (
 ) (reach-of-at t) reach-of.Post
 reach-of-add-reach-of t c = omega arith
 
--- src/lib.rt:189:9
 reach-of-reach-of-requires : (t : ℕ) → reach-of-lts.Need-reach-of-requires (
   places-reads.Asked,
   places-reads.Learnt,
@@ -111,7 +103,6 @@ reach-of-reach-of-requires : (t : ℕ) → reach-of-lts.Need-reach-of-requires (
 ) (reach-of-at t) reach-of.Post
 reach-of-reach-of-requires t c κs = search needs
 
--- src/lib.rt:193:21
 reach-of-add-t12 : (t : ℕ) → reach-of-lts.Need-add-t12 (
   places-reads.Asked,
   places-reads.Learnt,
@@ -122,7 +113,6 @@ reach-of-add-t12 : (t : ℕ) → reach-of-lts.Need-add-t12 (
 ) (reach-of-at t) reach-of.Post
 reach-of-add-t12 t c = omega arith
 
--- src/lib.rt:191:9
 reach-of-returns-3 : (t : ℕ) → reach-of-lts.Need-returns-3 (
   places-reads.Asked,
   places-reads.Learnt,
@@ -133,7 +123,6 @@ reach-of-returns-3 : (t : ℕ) → reach-of-lts.Need-returns-3 (
 ) (reach-of-at t) reach-of.Post
 reach-of-returns-3 t c = search (needs, laws.reach-one)
 
--- src/lib.rt:196:9
 reach-of-reach-of-requires-2 : (t : ℕ) → reach-of-lts.Need-reach-of-requires-2 (
   places-reads.Asked,
   places-reads.Learnt,
@@ -144,7 +133,6 @@ reach-of-reach-of-requires-2 : (t : ℕ) → reach-of-lts.Need-reach-of-requires
 ) (reach-of-at t) reach-of.Post
 reach-of-reach-of-requires-2 t c κs = search needs
 
--- src/lib.rt:197:9
 reach-of-larger-requires : (t : ℕ) → reach-of-lts.Need-larger-requires (
   places-reads.Asked,
   places-reads.Learnt,
@@ -155,7 +143,6 @@ reach-of-larger-requires : (t : ℕ) → reach-of-lts.Need-larger-requires (
 ) (reach-of-at t) reach-of.Post
 reach-of-larger-requires t c κs = search needs
 
--- src/lib.rt:200:17
 reach-of-add-t7 : (t : ℕ) → reach-of-lts.Need-add-t7 (
   places-reads.Asked,
   places-reads.Learnt,
@@ -166,7 +153,6 @@ reach-of-add-t7 : (t : ℕ) → reach-of-lts.Need-add-t7 (
 ) (reach-of-at t) reach-of.Post
 reach-of-add-t7 t c = omega arith
 
--- src/lib.rt:176:1
 reach-of-returns-4 : (t : ℕ) → reach-of-lts.Need-returns-4 (
   places-reads.Asked,
   places-reads.Learnt,

@@ -1,59 +1,45 @@
 use native.Mathlib.Omega.{arith}
-use Prim.Native.Nat.{ℕ, _+_, _-_, _^_, _<_, _≤_, max}
-use mathlib.Core.Path.{_≡_, refl, ap}
-use lib.ListN.{length, drop}
-use Rattle.terms.specs.Nodes.{spans, part, variablesOf, someTemporal}
+use Prim.Native.Nat.{_-_, _≤_}
+use mathlib.Core.Path.{_≡_}
+use Rattle.terms.specs.Nodes.{part, someTemporal}
 use Rattle.terms.proofs.Laws as laws
 use borrow.Author.Needs.{needs}
 use Rattle.terms.proofs.has_temporal.Statement.{statement}
 use Rattle.terms.proofs.has_temporal.Tie as tie
-use Rattle.terms.proofs.has_temporal.Reads as reads
-use Rattle.terms.proofs.has_temporal.Lts as lts
-use Rattle.terms.proofs.is_temporal.Reads as is-temporal-reads
 
 abbrev Inv-loop : tie.InvT-loop
-Inv-loop nodes at end i₀ i = someTemporal (part at end nodes) ≡ someTemporal (part i end nodes)
+Inv-loop nodes at end i₀ i = (at ≤ i) × (someTemporal (part at end nodes) ≡ someTemporal (part i end nodes))
 
 abbrev μ-loop : tie.MeasureT-loop
 μ-loop nodes at end i₀ i = end - i
 
--- src/lib.rt:147:5
 loop-holds : tie.Need-loop-holds Inv-loop μ-loop
-loop-holds c = search needs
+loop-holds c = search (needs, arith)
 
--- src/lib.rt:149:13
 returns : tie.Need-returns Inv-loop μ-loop
 returns c = search (needs, laws.temporal-off)
 
--- src/lib.rt:151:24
 mul-is-temporal : tie.Need-mul-is-temporal Inv-loop μ-loop
 mul-is-temporal c = search needs
 
--- src/lib.rt:151:24
 shared-slice-read-is-temporal : tie.Need-shared-slice-read-is-temporal Inv-loop μ-loop
 shared-slice-read-is-temporal c = search needs
 
--- src/lib.rt:151:12
 is-temporal-requires : tie.Need-is-temporal-requires Inv-loop μ-loop
 is-temporal-requires c κs = search needs
 
--- src/lib.rt:152:13
 returns-2 : tie.Need-returns-2 Inv-loop μ-loop
 returns-2 c = search (needs, laws.temporal-met)
 
--- src/lib.rt:154:9
 add-i : tie.Need-add-i Inv-loop μ-loop
 add-i c = search needs
 
--- src/lib.rt:147:5
 loop-less : tie.Need-loop-less Inv-loop μ-loop
 loop-less c = search needs
 
--- src/lib.rt:147:5
 loop-again : tie.Need-loop-again Inv-loop μ-loop
-loop-again c = search (needs, laws.temporal-on)
+loop-again c = (omega arith, search (needs, laws.temporal-on))
 
--- src/lib.rt:143:1
 returns-3 : tie.Need-returns-3 Inv-loop μ-loop
 returns-3 c = search (needs, laws.temporal-done)
 
