@@ -1,15 +1,14 @@
 -- The arrays that hold a deck's equations, read equation by equation.
 use mathlib.Core.Path.{_≡_, refl, sym, ap, _∙_, subst}
 use mathlib.Core.Bool.{false}
-use mathlib.Core.Logic.{inl, inr}
 use mathlib.Core.List.{List, [], _∷_, _++_, append-assoc}
 use Prim.Native.Nat.{ℕ, zero, suc, _+_, _-_, _<_, _≤_}
 use native.Mathlib.Omega.{arith}
 use native.Mathlib.Nat.{zero-add}
-use lib.ListN.{length, take, drop, getD, replicate, length-append}
+use lib.ListN.{length, take, drop, getD, replicate, length-append, length-map, List·getD-map}
 use lib.Seq.{drop-cons}
-use Rattle.lists.specs.Lists.{_among_, padded}
-use Rattle.lists.proofs.Laws.{getD-padded}
+use Rattle.lists.specs.Lists.{Each, padded}
+use Rattle.lists.proofs.Laws.{each-getD, getD-padded}
 use Rattle.logic.specs.Expressions.{Const, nodes, code}
 use Rattle.logic.specs.Decks.{Equation, base, totalNodes}
 use Rattle.logic.proofs.Codes.{Narrow, length-code}
@@ -19,14 +18,16 @@ use Rattle.decks.specs.Stored.{leftsOf, endsOf, codes, HoldsEquations}
 
 -- general:
 
+-- What stands for an equation behind the last one.
+abbrev noEquation : Equation
+noEquation = record { left = 0; right = Const false }
+
 -- Equation i.
 abbrev pub equation : List Equation → ℕ → Equation
-equation qs i = getD qs i (record { left = 0; right = Const false })
+equation qs i = getD qs i noEquation
 
-pub equation-among : (qs : List Equation) (i : ℕ) → i < length qs → equation qs i among qs
-equation-among [] i h = absurd (omega arith)
-equation-among (q ∷ qs) zero h = inl refl
-equation-among (q ∷ qs) (suc i) h = inr (equation-among qs i (omega arith))
+pub each-equation : (P : Equation → Type 0) (qs : List Equation) (i : ℕ) → Each P qs → i < length qs → P (equation qs i)
+each-equation P qs i = each-getD P qs i noEquation
 
 pub length-codes : (qs : List Equation) → length (codes qs) ≡ totalNodes qs
 unfolding codes totalNodes
@@ -38,14 +39,8 @@ unfolding endsOf
 length-ends n [] = refl
 length-ends n (q ∷ qs) = ap suc (length-ends (n + nodes (q .right)) qs)
 
-pub length-lefts : (qs : List Equation) → length (leftsOf qs) ≡ length qs
-length-lefts [] = refl
-length-lefts (q ∷ qs) = ap suc (length-lefts qs)
-
-pub lefts-at : (qs : List Equation) (i : ℕ) → i < length qs → getD (leftsOf qs) i 0 ≡ equation qs i .left
-lefts-at [] i h = absurd (omega arith)
-lefts-at (q ∷ qs) zero h = refl
-lefts-at (q ∷ qs) (suc i) h = lefts-at qs i (omega arith)
+pub lefts-at : (qs : List Equation) (i : ℕ) → getD (leftsOf qs) i 0 ≡ equation qs i .left
+lefts-at qs i = List·getD-map (λ (q : Equation). q .left) qs i noEquation
 
 -- The nodes of the equations before the next one.
 pub nodes-before : (qs : List Equation) (i : ℕ) → i < length qs → totalNodes (take (suc i) qs) ≡ totalNodes (take i qs) + nodes (equation qs i .right)
@@ -76,13 +71,13 @@ module _ (qs : List Equation) (lefts ends cs : List ℕ) (n i : ℕ) (held : Hol
   within = omega (arith, held .count-is)
 
   pub left-within : i < length lefts
-  left-within = rw (held .lefts-are) (omega (arith, within, long (base .equations) (leftsOf qs), length-lefts qs))
+  left-within = rw (held .lefts-are) (omega (arith, within, long (base .equations) (leftsOf qs), length-map qs (λ (q : Equation). q .left)))
 
   pub end-within : i < length ends
   end-within = rw (held .ends-are) (omega (arith, within, long (base .equations) (endsOf 0 qs), length-ends 0 qs))
 
   pub left-is : getD lefts i 0 ≡ equation qs i .left
-  left-is = rw (held .lefts-are) (getD-padded (base .equations) (leftsOf qs) i ∙ lefts-at qs i within)
+  left-is = rw (held .lefts-are) (getD-padded (base .equations) (leftsOf qs) i ∙ lefts-at qs i)
 
   pub end-is : getD ends i 0 ≡ totalNodes (take (i + 1) qs)
   end-is =
@@ -110,4 +105,4 @@ module _ (qs : List Equation) (lefts ends cs : List ℕ) (n i : ℕ) (held : Hol
   pub next-equation : drop i qs ≡ equation qs i ∷ drop (i + 1) qs
   next-equation =
       let e : suc i ≡ i + 1 = omega arith in
-      drop-cons qs i (record { left = 0; right = Const false }) within ∙ ap (λ (k : ℕ). equation qs i ∷ drop k qs) e
+      drop-cons qs i noEquation within ∙ ap (λ (k : ℕ). equation qs i ∷ drop k qs) e

@@ -11,7 +11,6 @@ use lib.ListN.{length, take, drop, getD, set, replicate, length-set, length-repl
 use lib.Seq.{getD-set-same, getD-set-other, ext-getD}
 use lib.Bits.{or-zero-l, or-zero-r}
 use Rattle.lists.specs.Lists.{_among_}
-use Rattle.lists.proofs.Laws.{each-at}
 use Rattle.sets.specs.Sets.{_∋_, _⊆_, union}
 use Rattle.sets.proofs.Laws.{bit-zero, subset-refl, subset-trans, union-left, union-right, union-least}
 use Rattle.logic.specs.Expressions.{Expr, nodes, written}
@@ -22,7 +21,7 @@ use Rattle.terms.specs.Nodes.{part, variablesOf}
 use Rattle.terms.proofs.Laws.{union-assoc}
 use Rattle.terms.proofs.Trees.{stands-written}
 use Rattle.cones.specs.Dependencies.{dependsOn, rows, table, Small, Given}
-use Rattle.cones.proofs.Equations.{equation, equation-among, within, left-is, left-within, end-within, end-is, next-end, right-stands, next-equation}
+use Rattle.cones.proofs.Equations.{equation, each-equation, within, left-is, left-within, end-within, end-is, next-end, right-stands, next-equation}
 
 -- general:
 pub nothing-within : (t : ℕ) → 0 ⊆ t
@@ -150,7 +149,7 @@ module _ (lefts ends cs : List ℕ) (n : ℕ) where
       end-here = end-within qs lefts ends cs n i (g .held) h
 
       small : Small (equation qs i)
-      small = each-at Small qs (equation qs i) (g .small) (equation-among qs i (within qs lefts ends cs n i (g .held) h))
+      small = each-equation Small qs i (g .small) (within qs lefts ends cs n i (g .held) h)
 
       left-its : (v : ℕ) → v ≡ getD lefts i 0 → v ≡ equation qs i .left
       left-its v p = p ∙ left-is qs lefts ends cs n i (g .held) h
