@@ -1,4 +1,5 @@
 use borrow.Author.Needs.{needs}
+use Rattle.evaluator.proofs.Laws as laws
 use Rattle.evaluator.proofs.value_in.Statement.{statement}
 use Rattle.evaluator.proofs.value_in.Tie as tie
 use Rattle.evaluator.proofs.value_in.Reads as reads
@@ -11,11 +12,11 @@ member-requires c κs = search needs
 
 -- src/lib.rt:62:9
 returns : tie.Need-returns
-returns c = ?
+returns c = search (needs, laws.member-one)
 
 -- src/lib.rt:58:1
 returns-2 : tie.Need-returns-2
-returns-2 c = ?
+returns-2 c = search (needs, laws.member-zero)
 
 pub value-in-spec : {M : Type 1} → statement M
 value-in-spec = tie.close (tie.spec member-requires returns returns-2)
