@@ -3,7 +3,7 @@ use mathlib.Core.Path.{_≡_, refl}
 use mathlib.Core.List.{[], _∷_}
 use lib.ListN.{take}
 use lib.Count.{ones, onesIn, trailingZeros}
-use Rattle.logic.specs.Expressions.{written}
+use Rattle.logic.specs.Expressions.{Var, One, Not, written}
 use Rattle.logic.specs.Cones.{grown, passes, cone}
 use Rattle.logic.proofs.Cases.{worked}
 use Rattle.decks.specs.declared.Answer.the-variants.{Fine, Outside}
@@ -34,3 +34,8 @@ cone-outside = refl
 pub table-worked : take 5 (table (worked .equations)) ≡ 1 ∷ 3 ∷ 8 ∷ 4 ∷ 0 ∷ []
 unfolding rows dependsOn written
 table-worked = refl
+
+-- `V0=V1` and `V0=~V2`: both equations count, and what stands behind an operator.
+pub both-equations : dependsOn (record { left = 0; right = Var 1 } ∷ record { left = 0; right = One Not (Var 2) } ∷ []) 0 ≡ 6
+unfolding dependsOn written
+both-equations = refl
