@@ -1,3 +1,4 @@
 pub mod Hex
 pub mod Written
 pub mod Read
+pub mod Sizes

@@ -45,10 +45,6 @@ inside s t = eqb (meet s t) s
 abbrev pub without : ℕ → ℕ → ℕ
 without s t = s - bitAnd s t
 
--- Whether every variable of s is in t.
-abbrev pub inside : ℕ → ℕ → Bool
-inside s t = eqb (meet s t) s
-
 -- The number of variables in s: the ones among its digits.
 abbrev pub size : ℕ → ℕ
 size s = ones s
