@@ -1,32 +1,20 @@
 -- What the writers of decks and claims are lent, and what they give.
 use mathlib.Core.Path.{_≡_}
-use mathlib.Core.Bool.{Bool, true, false}
-use mathlib.Core.List.{List, [], _∷_, _++_}
+use mathlib.Core.Bool.{true, false}
+use mathlib.Core.List.{List}
 use Prim.Native.Nat.{ℕ, _≤_, _+_}
 use lib.Dec.{ltb}
 use lib.ListN.{length, take}
 use Rattle.lists.specs.Lists.{splice}
-use Rattle.sets.specs.Sets.{has}
 use Rattle.logic.specs.Expressions.{Expr, code}
 use Rattle.logic.specs.Decks.{Equation, Deck, base}
 use Rattle.logic.specs.Pieces.{equationsOf}
 use Rattle.logic.specs.Meaning.{Claim}
 use Rattle.decks.specs.declared.Answer.the-variants.{Fine, NoRoom}
 use Rattle.decks.specs.Stored.{HoldsEquations}
-use Rattle.frames.specs.Hex.{pair}
-use Rattle.frames.specs.Written.{equationKind, nodePairs, frame, deckFrames, claimFrames}
+use Rattle.frames.specs.Written.{deckFrames, claimFrames}
 use Rattle.writing.specs.Parts.{part, Nodes}
 use Rattle.texts.specs.declared.Written.{Written}
-
--- ---- the equations of a set
-
--- The frame of an equation of a variable of the set; of another, nothing.
-unfoldable pub chosenFrame : ℕ → ℕ → List ℕ → List ℕ
-chosenFrame vars left nodes = elim (has vars left) [ true ↦ frame equationKind (pair left ++ nodePairs nodes) | false ↦ [] ]
-
--- n for a variable of the set; 0 for another.
-unfoldable pub chosen : ℕ → ℕ → ℕ → ℕ
-chosen vars left n = elim (has vars left) [ true ↦ n | false ↦ 0 ]
 
 -- ---- decks in lent arrays
 

@@ -52,10 +52,10 @@ pub fn put_number(out: &mut [u8], k: usize, n: u64)
     let mut left = k;
     let mut used = 0;
     while left != 0 {
-        left -= 1;
-        let b = byte_of(n, left);
+        let b = byte_of(n, left - 1);
         put_byte(&mut out[used..], b);
         used += 2;
+        left -= 1;
     }
 }
 

@@ -4,7 +4,7 @@ use Rattle.texts.proofs.frames_size.Statement.{statement}
 use Rattle.texts.proofs.frames_size.Tie as tie
 use Rattle.texts.proofs.frames_size.Reads as reads
 use Rattle.texts.proofs.frames_size.Lts as lts
-use Rattle.texts.proofs.equations_size.Reads as equations-size-reads
+use Rattle.equations.proofs.equations_size.Reads as equations-size-reads
 
 -- src/lib.rt:177:9
 equations-size-requires : tie.Need-equations-size-requires

@@ -1,4 +1,5 @@
 use borrow.Author.Needs.{needs}
+use Rattle.equations.proofs.Laws.{nodes-part}
 use Rattle.texts.proofs.Laws as laws
 use Rattle.texts.proofs.put_tail.Statement.{statement}
 use Rattle.texts.proofs.put_tail.Tie as tie
@@ -26,7 +27,7 @@ part-put-line-end c = search needs
 
 -- src/lib.rt:153:9
 put-line-requires : tie.Need-put-line-requires
-put-line-requires c κs = search (needs, laws.nodes-part)
+put-line-requires c κs = search (needs, nodes-part)
 
 -- src/lib.rt:154:14
 add-at : tie.Need-add-at

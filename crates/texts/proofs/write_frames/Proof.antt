@@ -2,13 +2,14 @@ use Prim.Native.Nat.{_^_, _<_}
 use lib.ListN.{length}
 use native.Mathlib.Omega.{arith}
 use borrow.Author.Needs.{needs}
+use Rattle.equations.proofs.Laws.{lefts-there}
 use Rattle.texts.proofs.Laws as laws
 use Rattle.texts.proofs.write_frames.Statement.{statement}
 use Rattle.texts.proofs.write_frames.Tie as tie
 use Rattle.texts.proofs.write_frames.Reads as reads
 use Rattle.texts.proofs.write_frames.Lts as lts
-use Rattle.texts.proofs.count_of.Reads as count-of-reads
-use Rattle.texts.proofs.put_equations.Reads as put-equations-reads
+use Rattle.equations.proofs.count_of.Reads as count-of-reads
+use Rattle.equations.proofs.put_equations.Reads as put-equations-reads
 use Rattle.texts.proofs.put_head.Reads as put-head-reads
 use Rattle.texts.proofs.put_tail.Reads as put-tail-reads
 
@@ -17,7 +18,7 @@ out-fits c = omega arith
 
 -- src/lib.rt:164:9
 count-of-requires : tie.Need-count-of-requires
-count-of-requires c κs = search (needs, laws.lefts-there)
+count-of-requires c κs = search (needs, lefts-there)
 
 -- src/lib.rt:165:9
 put-head-requires : tie.Need-put-head-requires

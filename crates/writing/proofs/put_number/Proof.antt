@@ -1,4 +1,3 @@
-use Rattle.frames.specs.Hex.{pairs}
 use mathlib.Core.Path.{_≡_}
 use lib.ListN.{length}
 use Prim.Native.Nat.{_+_, _*_, _≤_}
@@ -17,13 +16,13 @@ Inv-loop out₀ k n left₀ used₀ out left used = (left ≤ k) × (used + 2 * 
 abbrev μ-loop : tie.MeasureT-loop
 μ-loop out₀ k n left₀ used₀ out left used = left
 
--- src/lib.rt:53:5
+-- src/lib.rt:54:5
 loop-holds : tie.Need-loop-holds Inv-loop μ-loop
 loop-holds c = search (needs, laws.nothing-wrote)
 
--- src/lib.rt:54:9
-sub-left : tie.Need-sub-left Inv-loop μ-loop
-sub-left c = search needs
+-- src/lib.rt:55:28
+sub-byte-of : tie.Need-sub-byte-of Inv-loop μ-loop
+sub-byte-of c = search needs
 
 -- src/lib.rt:55:13
 byte-of-requires : tie.Need-byte-of-requires Inv-loop μ-loop
@@ -49,19 +48,23 @@ put-byte-requires c κs = search needs
 add-used : tie.Need-add-used Inv-loop μ-loop
 add-used c = search needs
 
--- src/lib.rt:53:5
+-- src/lib.rt:58:9
+sub-left : tie.Need-sub-left Inv-loop μ-loop
+sub-left c = search needs
+
+-- src/lib.rt:54:5
 loop-less : tie.Need-loop-less Inv-loop μ-loop
 loop-less c = search needs
 
--- src/lib.rt:53:5
+-- src/lib.rt:54:5
 loop-again : tie.Need-loop-again Inv-loop μ-loop
 loop-again c = search (needs, laws.number-next)
 
--- src/lib.rt:47:1
+-- src/lib.rt:48:1
 same-length : tie.Need-same-length Inv-loop μ-loop
 same-length c = search needs
 
--- src/lib.rt:47:1
+-- src/lib.rt:48:1
 returns : tie.Need-returns Inv-loop μ-loop
 returns c = search (needs, laws.number-done)
 
@@ -72,13 +75,14 @@ put-number-spec =
     Inv-loop
     μ-loop
     loop-holds
-    sub-left
+    sub-byte-of
     byte-of-requires
     sub-put-byte
     part-put-byte-start
     part-put-byte-end
     put-byte-requires
     add-used
+    sub-left
     loop-less
     loop-again
     same-length

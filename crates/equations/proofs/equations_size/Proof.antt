@@ -1,13 +1,13 @@
 use Prim.Native.Nat.{_-_, _*_, _≤_}
 use native.Mathlib.Omega.{arith}
 use borrow.Author.Needs.{needs}
-use Rattle.texts.proofs.Laws as laws
-use Rattle.texts.proofs.equations_size.Statement.{statement}
-use Rattle.texts.proofs.equations_size.Tie as tie
-use Rattle.texts.proofs.equations_size.Reads as reads
-use Rattle.texts.proofs.equations_size.Lts as lts
-use Rattle.texts.proofs.of_set.Reads as of-set-reads
-use Rattle.texts.proofs.place_of.Reads as place-of-reads
+use Rattle.equations.proofs.Laws as laws
+use Rattle.equations.proofs.equations_size.Statement.{statement}
+use Rattle.equations.proofs.equations_size.Tie as tie
+use Rattle.equations.proofs.equations_size.Reads as reads
+use Rattle.equations.proofs.equations_size.Lts as lts
+use Rattle.equations.proofs.of_set.Reads as of-set-reads
+use Rattle.equations.proofs.place_of.Reads as place-of-reads
 
 abbrev Inv-loop : tie.InvT-loop
 Inv-loop vars lefts ends count i₀ from₀ n₀ i from n = (i ≤ count) × (n ≤ 131075 * i) × laws.SizeTo vars lefts ends count i from n

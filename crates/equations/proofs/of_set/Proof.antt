@@ -1,9 +1,9 @@
 use borrow.Author.Needs.{needs}
-use Rattle.texts.proofs.Laws as laws
-use Rattle.texts.proofs.of_set.Statement.{statement}
-use Rattle.texts.proofs.of_set.Tie as tie
-use Rattle.texts.proofs.of_set.Reads as reads
-use Rattle.texts.proofs.of_set.Lts as lts
+use Rattle.equations.proofs.Laws as laws
+use Rattle.equations.proofs.of_set.Statement.{statement}
+use Rattle.equations.proofs.of_set.Tie as tie
+use Rattle.equations.proofs.of_set.Reads as reads
+use Rattle.equations.proofs.of_set.Lts as lts
 use Rattle.sets.proofs.member.Reads as member-reads
 
 -- src/lib.rt:98:8

@@ -1,12 +1,12 @@
 use Prim.Native.Nat.{_-_, _≤_}
 use borrow.Author.Needs.{needs}
-use Rattle.texts.proofs.Laws as laws
-use Rattle.texts.proofs.count_of.Statement.{statement}
-use Rattle.texts.proofs.count_of.Tie as tie
-use Rattle.texts.proofs.count_of.Reads as reads
-use Rattle.texts.proofs.count_of.Lts as lts
-use Rattle.texts.proofs.of_set.Reads as of-set-reads
-use Rattle.texts.proofs.place_of.Reads as place-of-reads
+use Rattle.equations.proofs.Laws as laws
+use Rattle.equations.proofs.count_of.Statement.{statement}
+use Rattle.equations.proofs.count_of.Tie as tie
+use Rattle.equations.proofs.count_of.Reads as reads
+use Rattle.equations.proofs.count_of.Lts as lts
+use Rattle.equations.proofs.of_set.Reads as of-set-reads
+use Rattle.equations.proofs.place_of.Reads as place-of-reads
 
 abbrev Inv-loop : tie.InvT-loop
 Inv-loop vars lefts count i₀ n₀ i n = (i ≤ count) × (n ≤ i) × laws.CountTo vars lefts count i n

@@ -1,9 +1,9 @@
 use borrow.Author.Needs.{needs}
-use Rattle.texts.proofs.Laws as laws
-use Rattle.texts.proofs.put_equation.Statement.{statement}
-use Rattle.texts.proofs.put_equation.Tie as tie
-use Rattle.texts.proofs.put_equation.Reads as reads
-use Rattle.texts.proofs.put_equation.Lts as lts
+use Rattle.equations.proofs.Laws as laws
+use Rattle.equations.proofs.put_equation.Statement.{statement}
+use Rattle.equations.proofs.put_equation.Tie as tie
+use Rattle.equations.proofs.put_equation.Reads as reads
+use Rattle.equations.proofs.put_equation.Lts as lts
 use Rattle.writing.proofs.put_byte.Reads as put-byte-reads
 use Rattle.writing.proofs.put_line.Reads as put-line-reads
 

@@ -1,11 +1,11 @@
 use borrow.Author.Needs.{needs}
-use Rattle.texts.proofs.Laws as laws
-use Rattle.texts.proofs.put_chosen.Statement.{statement}
-use Rattle.texts.proofs.put_chosen.Tie as tie
-use Rattle.texts.proofs.put_chosen.Reads as reads
-use Rattle.texts.proofs.put_chosen.Lts as lts
+use Rattle.equations.proofs.Laws as laws
+use Rattle.equations.proofs.put_chosen.Statement.{statement}
+use Rattle.equations.proofs.put_chosen.Tie as tie
+use Rattle.equations.proofs.put_chosen.Reads as reads
+use Rattle.equations.proofs.put_chosen.Lts as lts
 use Rattle.sets.proofs.member.Reads as member-reads
-use Rattle.texts.proofs.put_equation.Reads as put-equation-reads
+use Rattle.equations.proofs.put_equation.Reads as put-equation-reads
 
 -- src/lib.rt:33:8
 member-requires : tie.Need-member-requires

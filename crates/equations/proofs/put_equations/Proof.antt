@@ -2,13 +2,13 @@ use mathlib.Core.Path.{_≡_}
 use lib.ListN.{length}
 use Prim.Native.Nat.{_-_, _≤_}
 use borrow.Author.Needs.{needs}
-use Rattle.texts.proofs.Laws as laws
-use Rattle.texts.proofs.put_equations.Statement.{statement}
-use Rattle.texts.proofs.put_equations.Tie as tie
-use Rattle.texts.proofs.put_equations.Reads as reads
-use Rattle.texts.proofs.put_equations.Lts as lts
-use Rattle.texts.proofs.place_of.Reads as place-of-reads
-use Rattle.texts.proofs.put_chosen.Reads as put-chosen-reads
+use Rattle.equations.proofs.Laws as laws
+use Rattle.equations.proofs.put_equations.Statement.{statement}
+use Rattle.equations.proofs.put_equations.Tie as tie
+use Rattle.equations.proofs.put_equations.Reads as reads
+use Rattle.equations.proofs.put_equations.Lts as lts
+use Rattle.equations.proofs.place_of.Reads as place-of-reads
+use Rattle.equations.proofs.put_chosen.Reads as put-chosen-reads
 
 abbrev Inv-loop : tie.InvT-loop
 Inv-loop out₀ vars lefts ends nodes count i₀ from₀ used₀ out i from used = (i ≤ count) × (length out ≡ length out₀) × laws.EquationsTo vars lefts ends nodes count i from used out₀ out
