@@ -1,0 +1,278 @@
+-- Laws of decks and claims written as frames.
+use mathlib.Core.Path.{_≡_, refl, sym, ap, _∙_, subst}
+use mathlib.Core.Bool.{true}
+use mathlib.Core.List.{List, [], _∷_, _++_, append-assoc}
+use Prim.Native.Nat.{ℕ, zero, suc, _+_, _-_, _*_, _<_, _≤_}
+use native.Mathlib.Omega.{arith}
+use borrow.Author.Tests.{lt-ltb, le-ltb}
+use lib.ListN.{length, take, replicate, length-append, length-take, length-drop}
+use borrow.Rule.Slice.PartMut.{midOf, putMid}
+use Rattle.lists.specs.Lists.{Each, keep, padded, splice}
+use Rattle.lists.proofs.Laws.{each-append, each-map, keep-all, take-padded, length-splice, splice-rest, part-rest}
+use Rattle.sets.specs.Sets.{has, _⊆_}
+use Rattle.sets.proofs.Laws.{has-true}
+use Rattle.logic.specs.Expressions.{Expr, code}
+use Rattle.logic.specs.Expressions as Expressions
+use Rattle.logic.specs.Decks.{Equation, Deck, Allowed, Accepted, base}
+use Rattle.logic.specs.Meaning.{Sized}
+use Rattle.logic.specs.Pieces.{equationsOf}
+use Rattle.logic.proofs.Codes.{below-more, written-below, length-code, code-fits}
+use Rattle.decks.specs.declared.Deck.{Deck as Stored}
+use Rattle.decks.specs.declared.Answer.the-variants.{Fine, NoRoom}
+use Rattle.decks.specs.Stored.{HoldsEquations, codes, stored}
+use Rattle.frames.specs.Hex.{pair, pairs}
+use Rattle.frames.specs.Written.{claimKind, stateKind, claimCountKind, claimFrames, setBytes, setKind, initKind, propertyKind, countKind, nodePairs, frame, stateFrames, equationFrames, deckFrames}
+use Rattle.frames.proofs.HexLaws.{length-pairs, pairs-four}
+use Rattle.frames.proofs.ExprLaws.{length-node-pairs}
+use Rattle.frames.proofs.SizeLaws.{length-state-frames, length-equation-frames, length-deck-frames, length-claim-frames}
+use Rattle.writing.specs.Parts.{part, Nodes}
+use Rattle.writing.proofs.Laws.{splice-behind, three-parts, length-part}
+use Rattle.texts.specs.declared.Written.{Written}
+use Rattle.equations.proofs.Laws.{count-is-equations}
+use Rattle.texts.specs.Texts.{Lent, deckOf, framesOf, Filled, filled, claimOf}
+
+-- ---- 01 and 02s; 04 and 05
+
+pub head-frames : (vars : ℕ) (inits : List ℕ) (initials r : ℕ) (out₀ x y : List ℕ) → r ≡ 2 * 8 + 3 → x ≡ splice 0 (frame setKind (pairs setBytes vars)) out₀
+    → y ≡ splice 0 (stateFrames initKind (take initials inits)) (midOf r (length x - r) x)
+    → putMid r (length x - r) x y ≡ splice 0 (frame setKind (pairs setBytes vars) ++ stateFrames initKind (take initials inits)) out₀
+head-frames vars inits initials r out₀ x y er ex ey =
+    splice-behind r (frame setKind (pairs setBytes vars)) (stateFrames initKind (take initials inits)) out₀ x y ex
+    (omega (arith, length-append (pairs setBytes vars) (10 ∷ []), length-pairs setBytes vars)) ey
+
+pub tail-frames : (property : List ℕ) (from to frames r : ℕ) (out₀ x y z : List ℕ) → to ≤ length property → x ≡ splice 0 (pair 4) out₀ → r ≡ 2 * (to - from) + 1
+    → y ≡ splice 0 (nodePairs (part property from to) ++ (10 ∷ [])) (midOf 2 (length x - 2) x)
+    → z ≡ splice 0 (frame 5 (pairs 2 frames)) (midOf (r + 2) (length (putMid 2 (length x - 2) x y) - (r + 2)) (putMid 2 (length x - 2) x y))
+    → putMid (r + 2) (length (putMid 2 (length x - 2) x y) - (r + 2)) (putMid 2 (length x - 2) x y) z
+    ≡ splice 0 (frame propertyKind (nodePairs (part property from to)) ++ frame countKind (pairs 2 frames)) out₀
+tail-frames property from to frames r out₀ x y z h ex er ey ez =
+    three-parts 2 (r + 2) (pair 4) (nodePairs (part property from to) ++ (10 ∷ [])) (frame 5 (pairs 2 frames)) out₀ x y z ex refl ey
+    (omega (arith, er, length-append (nodePairs (part property from to)) (10 ∷ []), length-node-pairs (part property from to), length-part property from to h)) ez
+
+-- ---- decks in lent arrays
+
+module _ (vars : ℕ) (qs : List Equation) (e : Expr) (inits : List ℕ) (initials : ℕ) (lefts ends nodes : List ℕ) (equations : ℕ) (property : List ℕ) (from to : ℕ)
+    (l : Lent qs e inits initials lefts ends nodes equations property from to) where
+  pub frames-length : length (framesOf vars inits initials qs e) ≡ 19 * initials + 19 + length (equationFrames (equationsOf vars qs)) + (2 * (to - from) + 10)
+  frames-length =
+      omega (
+        arith,
+        length-deck-frames (deckOf vars (take initials inits) qs e),
+        length-equation-frames (equationsOf vars qs),
+        length-take initials inits,
+        l .initials-in,
+        length-code e,
+        ap (λ (m : List ℕ). length m) (l .holds-property),
+        length-part property from to (l .to-in),
+      )
+
+  pub frames-size : (n : ℕ) → n ≡ length (equationFrames (equationsOf vars qs)) → 19 * initials + 19 + n + (2 * (to - from) + 10) ≡ length (framesOf vars inits initials qs e)
+  frames-size n h = omega (arith, frames-length)
+
+-- What the writer of the equations has done.
+abbrev pub EquationsPut : ℕ → List ℕ → List ℕ → List ℕ → ℕ → ℕ → List ℕ → List ℕ → Type 0
+EquationsPut vars lefts ends nodes n m x y =
+    (qs : List Equation) → HoldsEquations qs lefts ends nodes n → (m ≡ length (equationFrames (equationsOf vars qs))) × (y ≡ splice 0 (equationFrames (equationsOf vars qs)) x)
+
+module _ (vars : ℕ) (qs : List Equation) (e : Expr) (inits : List ℕ) (initials : ℕ) (lefts ends nodes : List ℕ) (equations : ℕ) (property : List ℕ) (from to : ℕ)
+    (l : Lent qs e inits initials lefts ends nodes equations property from to) where
+  long : length (framesOf vars inits initials qs e) ≡ 19 * initials + 19 + length (equationFrames (equationsOf vars qs)) + (2 * (to - from) + 10)
+  long = frames-length vars qs e inits initials lefts ends nodes equations property from to l
+
+  pub head-room : (n : ℕ) → length (framesOf vars inits initials qs e) ≤ n → 19 * initials + 19 ≤ n
+  head-room n h = omega (arith, long)
+
+  module _ (out₀ x : List ℕ) (h : ℕ) (room : length (framesOf vars inits initials qs e) ≤ length out₀) (same : length x ≡ length out₀) (eh : h ≡ 19 * initials + 19) where
+    pub head-within : h ≤ length x
+    head-within = omega (arith, long)
+
+    pub equations-free : length (equationFrames (equationsOf vars qs)) ≤ length (midOf h (length x - h) x)
+    equations-free = omega (arith, long, ap (λ (k : List ℕ). length k) (part-rest h x), length-drop h x)
+
+    module _ (m : ℕ) (y : List ℕ) (o : EquationsPut vars lefts ends nodes equations m (midOf h (length x - h) x) y) where
+      put-bytes : m ≡ length (equationFrames (equationsOf vars qs))
+      put-bytes = o qs (l .holds-equations) .0
+
+      length-put : length (putMid h (length x - h) x y) ≡ length out₀
+      length-put =
+          ap (λ (k : List ℕ). length k) (splice-rest h (equationFrames (equationsOf vars qs)) x y (o qs (l .holds-equations) .1))
+          ∙ length-splice h (equationFrames (equationsOf vars qs)) x (omega (arith, long))
+          ∙ same
+
+      pub put-within : h + m ≤ length (putMid h (length x - h) x y)
+      put-within = omega (arith, long, put-bytes, length-put)
+
+      pub put-most : h + m ≤ length out₀
+      put-most = omega (arith, long, put-bytes)
+
+      pub tail-free : 2 * (to - from) + 10 ≤ length (midOf (h + m) (length (putMid h (length x - h) x y) - (h + m)) (putMid h (length x - h) x y))
+      tail-free =
+          omega (
+            arith,
+            long,
+            put-bytes,
+            length-put,
+            ap (λ (k : List ℕ). length k) (part-rest (h + m) (putMid h (length x - h) x y)),
+            length-drop (h + m) (putMid h (length x - h) x y),
+          )
+
+      pub all-most : (r : ℕ) → r ≡ 2 * (to - from) + 10 → h + m + r ≤ length out₀
+      all-most r er = omega (arith, long, put-bytes)
+
+  pub frames-bytes : (x y : List ℕ) (h m r : ℕ) → h ≡ 19 * initials + 19 → EquationsPut vars lefts ends nodes equations m x y → r ≡ 2 * (to - from) + 10
+      → h + m + r ≡ length (framesOf vars inits initials qs e)
+  frames-bytes x y h m r eh o er = omega (arith, long, o qs (l .holds-equations) .0)
+
+  pub frames-wrote : (out₀ x y z : List ℕ) (h m n : ℕ) → h ≡ 19 * initials + 19
+      → x ≡ splice 0 (frame setKind (pairs setBytes vars) ++ stateFrames initKind (take initials inits)) out₀
+      → EquationsPut vars lefts ends nodes equations m (midOf h (length x - h) x) y
+      → n ≡ length (keep (has vars) (take equations lefts))
+      → z ≡ splice 0 (frame propertyKind (nodePairs (part property from to)) ++ frame countKind (pairs 2 (initials + n + 2)))
+      (midOf (h + m) (length (putMid h (length x - h) x y) - (h + m)) (putMid h (length x - h) x y))
+      → putMid (h + m) (length (putMid h (length x - h) x y) - (h + m)) (putMid h (length x - h) x y) z ≡ splice 0 (framesOf vars inits initials qs e) out₀
+  unfolding deckFrames
+  frames-wrote out₀ x y z h m n eh ex o en ez =
+      let set : List ℕ = frame setKind (pairs setBytes vars) in
+      let states : List ℕ = stateFrames initKind (take initials inits) in
+      let mids : List ℕ = equationFrames (equationsOf vars qs) in
+      let last : List ℕ → ℕ → List ℕ = λ ns k. frame propertyKind (nodePairs ns) ++ frame countKind (pairs 2 k) in
+      let count : initials + n + 2 ≡ length (take initials inits) + length (equationsOf vars qs) + 2 =
+      omega (arith, en, count-is-equations vars qs lefts ends nodes equations (l .holds-equations), length-take initials inits, l .initials-in) in
+      let head : h ≡ length (set ++ states) =
+      omega (
+        arith,
+        length-append set states,
+        length-append (pairs setBytes vars) (10 ∷ []),
+        length-pairs setBytes vars,
+        length-state-frames initKind (take initials inits),
+        length-take initials inits,
+        l .initials-in,
+      ) in
+      three-parts h (h + m) (set ++ states) mids (last (part property from to) (initials + n + 2)) out₀ x y z ex head (o qs (l .holds-equations) .1)
+      (omega (arith, head, o qs (l .holds-equations) .0)) ez
+      ∙ ap (λ (t : List ℕ). splice 0 t out₀)
+      (append-assoc set states (mids ++ last (part property from to) (initials + n + 2))
+      ∙ ap (λ (k : ℕ). set ++ (states ++ (mids ++ last (part property from to) k))) count
+      ∙ ap (λ (ns : List ℕ). set ++ (states ++ (mids ++ last ns (length (take initials inits) + length (equationsOf vars qs) + 2)))) (l .holds-property))
+
+-- ---- texts into buffers
+
+module _ (text out : List ℕ) (needed : ℕ) (e : needed ≡ length text) where
+  refused : length out < needed → filled text out ≡ record { report = record { answer = NoRoom (length text); bytes = 0 }; buffer = out }
+  unfolding filled
+  refused h = simp (lt-ltb (length out) (length text) (omega (arith, e, h)), filled)
+
+  accepted : needed ≤ length out → filled text out ≡ record { report = record { answer = Fine; bytes = length text }; buffer = splice 0 text out }
+  unfolding filled
+  accepted h = simp (le-ltb (length out) (length text) (omega (arith, e, h)), filled)
+
+  pub refused-report : length out < needed → _≡_ {A = Written} (record { answer = NoRoom needed; bytes = 0 }) (filled text out .report)
+  refused-report h = ap (λ (k : ℕ). record { answer = NoRoom k; bytes = 0 }) e ∙ sym (ap (λ (f : Filled). f .report) (refused h))
+
+  pub refused-buffer : length out < needed → out ≡ filled text out .buffer
+  refused-buffer h = sym (ap (λ (f : Filled). f .buffer) (refused h))
+
+  pub accepted-report : (n : ℕ) → needed ≤ length out → n ≡ length text → _≡_ {A = Written} (record { answer = Fine; bytes = n }) (filled text out .report)
+  accepted-report n h k = ap (λ (m : ℕ). record { answer = Fine; bytes = m }) k ∙ sym (ap (λ (f : Filled). f .report) (accepted h))
+
+  pub accepted-buffer : (last : List ℕ) → needed ≤ length out → last ≡ splice 0 text out → last ≡ filled text out .buffer
+  accepted-buffer last h o = o ∙ sym (ap (λ (f : Filled). f .buffer) (accepted h))
+
+-- ---- claims
+
+pub claim-frames : (p c : ℕ) (states : List ℕ) (h m : ℕ) (out₀ x y z : List ℕ) → p + c ≤ 1024 → p + c ≤ length states → h ≡ 2 * 4 + 3
+    → x ≡ splice 0 (frame claimKind (pairs 4 (p * 65536 + c))) out₀ → m ≡ 19 * (p + c)
+    → y ≡ splice 0 (stateFrames stateKind (take (p + c) states)) (midOf h (length x - h) x)
+    → z ≡ splice 0 (frame claimCountKind (pairs 2 (p + c + 1))) (midOf (h + m) (length (putMid h (length x - h) x y) - (h + m)) (putMid h (length x - h) x y))
+    → putMid (h + m) (length (putMid h (length x - h) x y) - (h + m)) (putMid h (length x - h) x y) z ≡ splice 0 (claimFrames (claimOf p c states)) out₀
+unfolding claimFrames
+claim-frames p c states h m out₀ x y z few there eh ex em ey ez =
+    let first : List ℕ → List ℕ = λ l. frame claimKind l in
+    let mids : List ℕ = stateFrames stateKind (take (p + c) states) in
+    let last : ℕ → List ℕ = λ k. frame claimCountKind (pairs 2 k) in
+    let count : p + c + 1 ≡ length (take (p + c) states) + 1 = omega (arith, length-take (p + c) states) in
+    let head : h ≡ length (first (pairs 4 (p * 65536 + c))) = omega (arith, length-append (pairs 4 (p * 65536 + c)) (10 ∷ []), length-pairs 4 (p * 65536 + c)) in
+    three-parts h (h + m) (first (pairs 4 (p * 65536 + c))) mids (last (p + c + 1)) out₀ x y z ex head ey
+    (omega (arith, head, length-state-frames stateKind (take (p + c) states), length-take (p + c) states)) ez
+    ∙ ap (λ (k : ℕ). splice 0 (first (pairs 4 (p * 65536 + c)) ++ (mids ++ last k)) out₀) count
+    ∙ ap (λ (l : List ℕ). splice 0 (first l ++ (mids ++ last (length (take (p + c) states) + 1))) out₀) (pairs-four p c (omega arith))
+
+module _ (p c : ℕ) (states : List ℕ) (s : Sized base (claimOf p c states)) where
+  pub sized-most : p + c ≤ 1024
+  sized-most = s .most
+
+  pub sized-there : p + c ≤ length states
+  sized-there = omega (arith, s .all, length-take (p + c) states)
+
+  pub claim-bytes : 19 * (p + c) + 18 ≡ length (claimFrames (claimOf p c states))
+  claim-bytes = omega (arith, length-claim-frames (claimOf p c states), s .all)
+
+  pub claim-counted : (r : ℕ) → r ≡ 19 * (p + c) + 18 → r ≡ length (claimFrames (claimOf p c states))
+  claim-counted r e = e ∙ claim-bytes
+
+-- ---- decks as they are stored
+
+-- general:
+each-replicate : (P : ℕ → Type 0) (n x : ℕ) → P x → Each P (replicate n x)
+each-replicate P zero x p = tt
+each-replicate P (suc n) x p = (p, each-replicate P n x p)
+
+nodes-padded : (n : ℕ) (ns : List ℕ) → Nodes ns → Nodes (padded n ns)
+nodes-padded n ns ps = each-append (λ (x : ℕ). x < 266) ns (replicate (n - length ns) 0) ps (each-replicate (λ (x : ℕ). x < 266) (n - length ns) 0 (omega arith))
+
+module _ (D : Deck) (a : Accepted base D) where
+  narrow : (e : Expr) → (Expressions.written e) ⊆ D .vars → Nodes (code e)
+  narrow e f = code-fits e (below-more 64 256 e (omega arith) (written-below 64 (D .vars) e (a .vars-in) f))
+
+  all-narrow : (qs : List Equation) → Each (Allowed base (D .vars)) qs → Nodes (codes qs)
+  unfolding codes
+  all-narrow [] ps = tt
+  all-narrow (q ∷ qs) ps = each-append (λ (n : ℕ). n < 266) (code (q .right)) (codes qs) (narrow (q .right) (ps .0 .uses)) (all-narrow qs (ps .1))
+
+  -- An accepted deck in memory is lent as it stands.
+  pub stored-lent : (d : Stored) → d ≡ stored D → Lent (D .equations) (D .property) (d .inits) (d .initials) (d .lefts) (d .ends) (d .nodes) (d .equations) (d .property) 0 (d .size)
+  stored-lent d e =
+      subst
+      (λ (m : Stored). Lent (D .equations) (D .property) (m .inits) (m .initials) (m .lefts) (m .ends) (m .nodes) (m .equations) (m .property) 0 (m .size))
+      (sym e)
+      (record {
+        holds-equations = record { lefts-are = refl; ends-are = refl; nodes-are = refl; count-is = refl };
+        holds-property = ap (λ (k : ℕ). take k (padded (base .propertyNodes) (code (D .property)))) size ∙ take-padded (base .propertyNodes) (code (D .property));
+        nodes-in = nodes-padded (base .equationNodes) (codes (D .equations)) (all-narrow (D .equations) (a .equations-allowed));
+        property-in = nodes-padded (base .propertyNodes) (code (D .property)) (narrow (D .property) (a .property-in));
+        initials-in = omega (arith, length-append (D .inits) (replicate (base .initials - length (D .inits)) 0));
+        initials-most = a .inits-most;
+        equations-most = a .equations-most;
+        from-to = omega arith;
+        to-in = omega (arith, length-append (code (D .property)) (replicate (base .propertyNodes - length (code (D .property))) 0), length-code (D .property));
+        to-most = a .property-nodes;
+      })
+    where
+      size : Expressions.nodes (D .property) - 0 ≡ length (code (D .property))
+      size = omega (arith, length-code (D .property))
+
+  stored-frames : (d : Stored) → d ≡ stored D → framesOf (d .vars) (d .inits) (d .initials) (D .equations) (D .property) ≡ deckFrames D
+  stored-frames d e =
+      ap (λ (m : Stored). framesOf (m .vars) (m .inits) (m .initials) (D .equations) (D .property)) e
+      ∙ ap (λ (l : List ℕ). deckFrames (deckOf (D .vars) l (D .equations) (D .property))) (take-padded (base .initials) (D .inits))
+      ∙ ap (λ (qs : List Equation). deckFrames (record { vars = D .vars; inits = D .inits; equations = qs; property = D .property }))
+      (keep-all (λ (q : Equation). has (D .vars) (q .left)) (D .equations)
+      (each-map (Allowed base (D .vars)) (λ (q : Equation). has (D .vars) (q .left) ≡ true) (D .equations) (λ q k. has-true (D .vars) (q .left) (k .its)) (a .equations-allowed)))
+
+  module _ (d : Stored) (e : d ≡ stored D) (n : ℕ) where
+    pub stored-size : ((qs : List Equation) (x : Expr) → Lent qs x (d .inits) (d .initials) (d .lefts) (d .ends) (d .nodes) (d .equations) (d .property) 0 (d .size)
+        → n ≡ length (framesOf (d .vars) (d .inits) (d .initials) qs x)) → n ≡ length (deckFrames D)
+    stored-size f = f (D .equations) (D .property) (stored-lent d e) ∙ ap (λ (l : List ℕ). length l) (stored-frames d e)
+
+    pub stored-room : (room : ℕ) → ((qs : List Equation) (x : Expr) → Lent qs x (d .inits) (d .initials) (d .lefts) (d .ends) (d .nodes) (d .equations) (d .property) 0 (d .size)
+        → n ≡ length (framesOf (d .vars) (d .inits) (d .initials) qs x)) → n ≤ room → length (framesOf (d .vars) (d .inits) (d .initials) (D .equations) (D .property)) ≤ room
+    stored-room room f h = omega (arith, f (D .equations) (D .property) (stored-lent d e))
+
+    module _ (out₀ out : List ℕ)
+        (f : (qs : List Equation) (x : Expr) → Lent qs x (d .inits) (d .initials) (d .lefts) (d .ends) (d .nodes) (d .equations) (d .property) 0 (d .size)
+        → (n ≡ length (framesOf (d .vars) (d .inits) (d .initials) qs x)) × (out ≡ splice 0 (framesOf (d .vars) (d .inits) (d .initials) qs x) out₀)) where
+      pub stored-bytes : n ≡ length (deckFrames D)
+      stored-bytes = f (D .equations) (D .property) (stored-lent d e) .0 ∙ ap (λ (l : List ℕ). length l) (stored-frames d e)
+
+      pub stored-wrote : out ≡ splice 0 (deckFrames D) out₀
+      stored-wrote = f (D .equations) (D .property) (stored-lent d e) .1 ∙ ap (λ (l : List ℕ). splice 0 l out₀) (stored-frames d e)

@@ -1,0 +1,36 @@
+use borrow.Author.Needs.{needs}
+use Rattle.texts.proofs.Laws as laws
+use Rattle.texts.proofs.write_deck.Statement.{statement}
+use Rattle.texts.proofs.write_deck.Tie as tie
+use Rattle.texts.proofs.write_deck.Reads as reads
+use Rattle.texts.proofs.write_deck.Lts as lts
+use Rattle.texts.proofs.frames_size.Reads as frames-size-reads
+use Rattle.texts.proofs.write_frames.Reads as write-frames-reads
+
+-- src/lib.rt:186:9
+frames-size-requires : tie.Need-frames-size-requires
+frames-size-requires c κs = let p = c .before .before .before .before .before .before .before .before .before .before .before .before .pre in (p .0 .equations, p .0 .property, laws.stored-lent (p .0) (p .1) _ (p .2))
+
+-- src/lib.rt:188:9
+returns : tie.Need-returns
+returns c = λ D a e. search (needs, laws.refused-report, laws.refused-buffer, laws.stored-size)
+
+-- src/lib.rt:193:9
+write-frames-requires : tie.Need-write-frames-requires
+write-frames-requires c κs = let p = c .before .before .before .before .before .before .before .before .before .before .before .before .before .before .before .before .before .before .before .before .before .before .before .before .before .before .pre in (p .0 .equations, p .0 .property, laws.stored-lent (p .0) (p .1) _ (p .2), laws.stored-room (p .0) (p .1) _ (p .2) _ _ (c .before .before .before .before .before .before .before .before .before .before .before .before .before .frames-size .ensures) (c .before .before .before .before .before .before .before .before .before .before .before .before .if1 .left))
+
+-- src/lib.rt:182:1
+same-length : tie.Need-same-length
+same-length c = search needs
+
+-- src/lib.rt:182:1
+returns-2 : tie.Need-returns-2
+returns-2 c = λ D a e.
+    let needed = laws.stored-size D a _ e _ (c .before .before .before .before .before .before .before .before .before .before .before .before .before .before .before .before .frames-size .ensures) in (
+      laws.accepted-report _ _ _ needed _ (c .before .before .before .before .before .before .before .before .before .before .before .before .before .before .before .if1 .left) (laws.stored-bytes D a _ e _ _ _ (c .before .before .write-frames .ensures)),
+      laws.accepted-buffer _ _ _ needed _ (c .before .before .before .before .before .before .before .before .before .before .before .before .before .before .before .if1 .left) (laws.stored-wrote D a _ e _ _ _ (c .before .before .write-frames .ensures)),
+    )
+
+pub write-deck-spec : {M : Type 1} → statement M
+write-deck-spec =
+    tie.close (tie.spec frames-size-requires returns write-frames-requires same-length returns-2)
