@@ -1,3 +1,4 @@
 pub mod Outcomes
 pub mod GrammarLaws
+pub mod WordLaws
 pub mod Cases
