@@ -1,4 +1,5 @@
 pub mod Outcomes
 pub mod GrammarLaws
 pub mod WordLaws
+pub mod TypedLaws
 pub mod Cases
