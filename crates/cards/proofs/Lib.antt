@@ -3,4 +3,6 @@ pub mod GrammarLaws
 pub mod WordLaws
 pub mod TypedLaws
 pub mod StatementLaws
+pub mod ColumnLaws
+pub mod NothingDropped
 pub mod Cases
