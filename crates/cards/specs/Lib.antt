@@ -3,3 +3,4 @@ pub mod Statement
 pub mod Grammar
 pub mod Typed
 pub mod Read
+pub mod Columns
