@@ -70,13 +70,13 @@ module _ (p : ℕ) (old : List ℕ) where
   next-on new after i w v r d l e g q s =
       let k : suc i < length old = omega (arith, d .same) in
       done-next (nextWord p old) old new after i w r d (omega arith) e
-        (q ∙ ap (λ (x : ℕ). topped w (top x)) (g ∙ d .behind (i + 1) (omega arith) ∙ ap (λ (x : ℕ). getD old x 0) (omega arith ∙ sym (following-next (length old) p i k))))
-        s
+      (q ∙ ap (λ (x : ℕ). topped w (top x)) (g ∙ d .behind (i + 1) (omega arith) ∙ ap (λ (x : ℕ). getD old x 0) (omega arith ∙ sym (following-next (length old) p i k))))
+      s
 
   -- At the last state.
   pub next-last : (new after : List ℕ) (i w h r : ℕ) → Done (nextWord p old) i old new → length new ≡ i + 1 → w ≡ getD new i 0 → h ≡ top (getD old p 0) → r ≡ topped w h → after ≡ set new i r → Done (nextWord p old) (i + 1) old after
   next-last new after i w h r d l e g q s =
       let k : length old ≤ suc i = omega (arith, d .same) in
       done-next (nextWord p old) old new after i w r d (omega arith) e
-        (q ∙ ap (topped w) (g ∙ ap (λ (x : ℕ). top (getD old x 0)) (sym (following-last (length old) p i k))))
-        s
+      (q ∙ ap (topped w) (g ∙ ap (λ (x : ℕ). top (getD old x 0)) (sym (following-last (length old) p i k))))
+      s
