@@ -146,10 +146,10 @@ pub fn write_claim(p: usize, c: usize, states: &[u64], out: &mut [u8]) -> Writte
     requires { ⌜ Sized base (claimOf p c (now states)) ⌝ }
     ensures { λ r. ⌜ (r ≡ claimWritten (claimOf p c (now (states .entry))) (now (out .entry)) .report) × (now (out .exit) ≡ claimWritten (claimOf p c (now (states .entry))) (now (out .entry)) .buffer) ⌝ }
 {
-    let needed = 19 * (p + c) + 18;
-    if out.len() < needed {
+    let size = 19 * (p + c) + 18;
+    if out.len() < size {
         return Written {
-            answer: decks::Answer::NoRoom(needed as u64),
+            answer: decks::Answer::NoRoom(size as u64),
             bytes: 0,
         };
     }

@@ -7,16 +7,16 @@ use Rattle.texts.proofs.write_claim.Lts as lts
 use Rattle.texts.proofs.put_claim.Reads as put-claim-reads
 
 -- src/lib.rt:218:24
-add-needed : tie.Need-add-needed
-add-needed c = search needs
+add-size : tie.Need-add-size
+add-size c = search needs
 
 -- src/lib.rt:218:18
-mul-needed : tie.Need-mul-needed
-mul-needed c = search needs
+mul-size : tie.Need-mul-size
+mul-size c = search needs
 
 -- src/lib.rt:218:18
-add-needed-2 : tie.Need-add-needed-2
-add-needed-2 c = search needs
+add-size-2 : tie.Need-add-size-2
+add-size-2 c = search needs
 
 -- src/lib.rt:220:9
 returns : tie.Need-returns
@@ -37,4 +37,4 @@ returns-2 c = search (needs, laws.accepted-report, laws.accepted-buffer, laws.cl
 pub write-claim-spec : {M : Type 1} → statement M
 write-claim-spec =
     tie.close
-    (tie.spec add-needed mul-needed add-needed-2 returns put-claim-requires same-length returns-2)
+    (tie.spec add-size mul-size add-size-2 returns put-claim-requires same-length returns-2)
