@@ -1,6 +1,6 @@
 -- Laws of one card and of the first pass.
 use mathlib.Core.Path.{_≡_, refl, sym, ap, _∙_, subst}
-use mathlib.Core.Logic.{_⊎_, inl, inr, ⊎-elim, by-cases}
+use mathlib.Core.Logic.{inl, inr, by-cases}
 use mathlib.Core.Bool.{Bool, true, false, not, _&&_, _||_}
 use mathlib.Core.List.{List, [], _∷_, _++_, append-nil}
 use Prim.Native.Nat.{ℕ, zero, suc, _+_, _-_, _<_, _≤_, min}
@@ -17,12 +17,12 @@ use Rattle.decks.specs.declared.Answer.{Answer}
 use Rattle.decks.specs.declared.Answer.the-variants.{Fine, BadByte, TooWide, BadStart, BadNumber, NoneOpen, TooManyCards}
 use Rattle.decks.specs.Answers.{Outcome, Got, Refused, refuse}
 use Rattle.decks.specs.Readings.{walk}
-use Rattle.cards.specs.Card.{cardsOf, lastCard, blank, fieldStart, fieldEnd, fieldColumns, column, columns, every, isBlank, isDigit, printable, isComment, numbered, Kind, Comment, Empty, Opening, Continuing, kindOf, closes, Open, Shut, Continued, opened, cardInForm, inForm}
+use Rattle.cards.specs.Card.{cardsOf, blank, cardColumns, fieldStart, fieldEnd, fieldColumns, continuations, column, columns, every, isBlank, isDigit, printable, isComment, numbered, Kind, Comment, Empty, Opening, Continuing, kindOf, closes, Open, Shut, Continued, opened, cardInForm, inForm}
 use Rattle.firstpass.specs.declared.CardKind.{CardKind}
 use Rattle.firstpass.specs.declared.CardKind.the-variants.{Comment as CommentCard, Empty as EmptyCard, Opening as OpeningCard, Continuing as ContinuingCard}
 use Rattle.firstpass.specs.declared.Carded.{Carded}
 use Rattle.firstpass.specs.declared.Carded.the-variants.{Next, Fault}
-use Rattle.firstpass.specs.Passed.{lineLength, between, kindIs, openOf, outcomeOf, passed}
+use Rattle.firstpass.specs.Passed.{lineLength, between, free, kindIs, openOf, outcomeOf, passed}
 
 -- ---- general: parts of lists
 
@@ -249,26 +249,26 @@ module _ (card : List ℕ) where
     blank-some r h e q = q ∙ sym (blank-part h e)
 
   module _ (b : Bool) where
-    pub number-blank : b ≡ every isBlank (columns 73 80 card) → b ≡ true → true ≡ numbered card
-    number-blank e q = sym (ap (λ (t : Bool). t || every isDigit (columns 73 80 card)) (sym e ∙ q))
+    pub number-blank : b ≡ every isBlank (columns 73 cardColumns card) → b ≡ true → true ≡ numbered card
+    number-blank e q = sym (ap (λ (t : Bool). t || every isDigit (columns 73 cardColumns card)) (sym e ∙ q))
 
-    pub number-short : b ≡ every isBlank (columns 73 80 card) → b ≡ false → length card < 80 → false ≡ numbered card
+    pub number-short : b ≡ every isBlank (columns 73 cardColumns card) → b ≡ false → length card < cardColumns → false ≡ numbered card
     number-short e q h =
         let d : List ℕ = drop 72 card in
         let more : 8 - length d ≡ suc (7 - length d) = omega (arith, length-drop 72 card) in
         sym (
-        ap (λ (t : Bool). t || every isDigit (columns 73 80 card)) (sym e ∙ q)
-        ∙ ap (every isDigit) (columns-filled 73 80 card ∙ ap (λ (k : ℕ). take 8 d ++ replicate k blank) more)
+        ap (λ (t : Bool). t || every isDigit (columns 73 cardColumns card)) (sym e ∙ q)
+        ∙ ap (every isDigit) (columns-filled 73 cardColumns card ∙ ap (λ (k : ℕ). take 8 d ++ replicate k blank) more)
         ∙ every-filled-not isDigit (take 8 d) (7 - length d) blank refl)
 
-    pub number-digits : (r : Bool) → b ≡ every isBlank (columns 73 80 card) → b ≡ false → 80 ≤ length card → r ≡ every (between 48 57) (take 8 (drop 72 card)) → r ≡ numbered card
+    pub number-digits : (r : Bool) → b ≡ every isBlank (columns 73 cardColumns card) → b ≡ false → cardColumns ≤ length card → r ≡ every (between 48 57) (take 8 (drop 72 card)) → r ≡ numbered card
     number-digits r e q h f =
         let d : List ℕ = drop 72 card in
         let none : 8 - length d ≡ 0 = omega (arith, length-drop 72 card) in
         f
         ∙ sym (
-        ap (λ (t : Bool). t || every isDigit (columns 73 80 card)) (sym e ∙ q)
-        ∙ ap (every isDigit) (columns-filled 73 80 card ∙ ap (λ (k : ℕ). take 8 d ++ replicate k blank) none ∙ append-nil (take 8 d)))
+        ap (λ (t : Bool). t || every isDigit (columns 73 cardColumns card)) (sym e ∙ q)
+        ∙ ap (every isDigit) (columns-filled 73 cardColumns card ∙ ap (λ (k : ℕ). take 8 d ++ replicate k blank) none ∙ append-nil (take 8 d)))
 
   pub comment-letter : (x : ℕ) → x ≡ column 1 card → x ≡ 67 → true ≡ isComment card
   comment-letter x e q = sym (ap (λ (t : Bool). t || eqb (column 1 card) 42) (eq-eqb (column 1 card) 67 (sym e ∙ q)))
@@ -285,20 +285,20 @@ module _ (card : List ℕ) where
     kind-comment e q = sym (simp (sym e ∙ q, kindOf))
 
     module _ (w : Bool) where
-      pub kind-empty : b ≡ isComment card → b ≡ false → w ≡ every isBlank (columns 1 72 card) → w ≡ true → Empty ≡ kindOf card
+      pub kind-empty : b ≡ isComment card → b ≡ false → w ≡ every isBlank (columns 1 fieldEnd card) → w ≡ true → Empty ≡ kindOf card
       unfolding kindOf
       kind-empty e q f p = sym (simp (sym e ∙ q, sym f ∙ p, kindOf))
 
       module _ (x : ℕ) where
-        pub kind-blank : b ≡ isComment card → b ≡ false → w ≡ every isBlank (columns 1 72 card) → w ≡ false → x ≡ column 6 card → x ≡ 32 → Opening ≡ kindOf card
+        pub kind-blank : b ≡ isComment card → b ≡ false → w ≡ every isBlank (columns 1 fieldEnd card) → w ≡ false → x ≡ column 6 card → x ≡ 32 → Opening ≡ kindOf card
         unfolding kindOf
         kind-blank e q f p g o = sym (simp (sym e ∙ q, sym f ∙ p, eq-eqb (column 6 card) 32 (sym g ∙ o), kindOf))
 
-        pub kind-zero : b ≡ isComment card → b ≡ false → w ≡ every isBlank (columns 1 72 card) → w ≡ false → x ≡ column 6 card → (x ≡ 32 → ⊥) → x ≡ 48 → Opening ≡ kindOf card
+        pub kind-zero : b ≡ isComment card → b ≡ false → w ≡ every isBlank (columns 1 fieldEnd card) → w ≡ false → x ≡ column 6 card → (x ≡ 32 → ⊥) → x ≡ 48 → Opening ≡ kindOf card
         unfolding kindOf
         kind-zero e q f p g n o = sym (simp (sym e ∙ q, sym f ∙ p, ne-eqb (column 6 card) 32 (λ k. n (g ∙ k)), eq-eqb (column 6 card) 48 (sym g ∙ o), kindOf))
 
-        pub kind-continuing : b ≡ isComment card → b ≡ false → w ≡ every isBlank (columns 1 72 card) → w ≡ false → x ≡ column 6 card → (x ≡ 32 → ⊥) → (x ≡ 48 → ⊥) → Continuing ≡ kindOf card
+        pub kind-continuing : b ≡ isComment card → b ≡ false → w ≡ every isBlank (columns 1 fieldEnd card) → w ≡ false → x ≡ column 6 card → (x ≡ 32 → ⊥) → (x ≡ 48 → ⊥) → Continuing ≡ kindOf card
         unfolding kindOf
         kind-continuing e q f p g n o = sym (simp (sym e ∙ q, sym f ∙ p, ne-eqb (column 6 card) 32 (λ k. n (g ∙ k)), ne-eqb (column 6 card) 48 (λ k. o (g ∙ k)), kindOf))
 
@@ -336,56 +336,77 @@ module _ (n : ℕ) where
   unfolding opened
   none-open hand e = rw e refl
 
-  pub too-many : (hand : ℕ) → (hand ≡ 0 → ⊥) → 19 < hand → Refused (TooManyCards n) ≡ opened n Continuing (openOf hand)
+  pub too-many : (hand : ℕ) → (hand ≡ 0 → ⊥) → continuations < hand → Refused (TooManyCards n) ≡ opened n Continuing (openOf hand)
   unfolding opened
   too-many zero h m = absurd (h refl)
-  too-many (suc k) h m = sym (ap (λ (t : Bool). refuse t (TooManyCards n) (Got (Continued (k + 1)))) (lt-ltb 19 (k + 1) (omega arith)))
+  too-many (suc k) h m = sym (ap (λ (t : Bool). refuse t (TooManyCards n) (Got (Continued (k + 1)))) (lt-ltb continuations (k + 1) (omega arith)))
 
-  pub one-more : (hand : ℕ) → (hand ≡ 0 → ⊥) → hand ≤ 19 → Got (openOf (hand + 1)) ≡ opened n Continuing (openOf hand)
+  pub one-more : (hand : ℕ) → (hand ≡ 0 → ⊥) → hand ≤ continuations → Got (openOf (hand + 1)) ≡ opened n Continuing (openOf hand)
   unfolding opened
   one-more zero h m = absurd (h refl)
   one-more (suc k) h m =
       let more : suc k + 1 ≡ suc (k + 1) = omega arith in
       ap (λ (j : ℕ). Got (openOf j)) more
-      ∙ sym (ap (λ (t : Bool). refuse t (TooManyCards n) (Got (Continued (k + 1)))) (le-ltb 19 (k + 1) (omega arith)))
+      ∙ sym (ap (λ (t : Bool). refuse t (TooManyCards n) (Got (Continued (k + 1)))) (le-ltb continuations (k + 1) (omega arith)))
 
 -- ---- one card: 2 to 7 in number order
 
--- A fault that comments are free of.
-pub comment-free : (b c d : Bool) → b ≡ c → b ≡ true → false ≡ (not c && d)
-comment-free b c d e q = ap (λ (t : Bool). not t && d) (sym q ∙ e)
+free-comment : (card : List ℕ) → free (kindOf card) ≡ isComment card
+unfolding kindOf
+free-comment card = go (isComment card) (every isBlank (columns 1 fieldEnd card)) (isBlank (column 6 card) || eqb (column 6 card) 48)
+  where
+    go : (b w z : Bool) → free (elim b [ true ↦ Comment | false ↦ elim w [ true ↦ Empty | false ↦ elim z [ true ↦ Opening | false ↦ Continuing ] ] ]) ≡ b
+    go true w z = refl
+    go false true z = refl
+    go false false true = refl
+    go false false false = refl
 
-pub comment-else : (b c d r : Bool) → b ≡ c → b ≡ false → r ≡ d → not r ≡ (not c && not d)
-comment-else b c d r e q f = ap not f ∙ ap (λ (t : Bool). not t && not d) (sym q ∙ e)
+-- What the code knows of a card, and the same in the words of the card form.
+judged : (card : List ℕ) (k : CardKind) (f g s right : Bool) → kindIs k ≡ kindOf card → f ≡ free (kindIs k) → g ≡ right → s ≡ (not f && not g) → (not (isComment card) && not right) ≡ s
+judged card k f g s right h e i j =
+    sym (j ∙ ap (λ (t : Bool). not t && not g) (e ∙ ap free h ∙ free-comment card) ∙ ap (λ (t : Bool). not (isComment card) && not t) i)
 
 module _ (n : ℕ) (card : List ℕ) (o : Open) (p : Bool) where
   pub bad-byte : p ≡ every printable card → not p ≡ true → Refused (BadByte n) ≡ cardInForm n card o
   unfolding cardInForm
   bad-byte e q = sym (simp (ap not (sym e) ∙ q, cardInForm))
 
-  pub too-wide : p ≡ every printable card → not p ≡ false → 80 < length card → Refused (TooWide n) ≡ cardInForm n card o
+  pub too-wide : p ≡ every printable card → not p ≡ false → cardColumns < length card → Refused (TooWide n) ≡ cardInForm n card o
   unfolding cardInForm
-  too-wide e q w = sym (simp (ap not (sym e) ∙ q, lt-ltb 80 (length card) w, cardInForm))
+  too-wide e q w = sym (simp (ap not (sym e) ∙ q, lt-ltb cardColumns (length card) w, cardInForm))
 
-  module _ (s : Bool) where
-    abbrev Start : Type 0
-    Start = s ≡ (not (isComment card) && not (every isBlank (columns 1 5 card)))
-
-    pub bad-start : p ≡ every printable card → not p ≡ false → length card ≤ 80 → Start → s ≡ true → Refused (BadStart n) ≡ cardInForm n card o
+  module _ (k : CardKind) (f g s : Bool) where
+    pub bad-start : kindIs k ≡ kindOf card → p ≡ every printable card → not p ≡ false → length card ≤ cardColumns → f ≡ free (kindIs k) → g ≡ every isBlank (columns 1 5 card) → s ≡ (not f && not g) → s ≡ true → Refused (BadStart n) ≡ cardInForm n card o
     unfolding cardInForm
-    bad-start e q w f t = sym (simp (ap not (sym e) ∙ q, le-ltb 80 (length card) w, sym f ∙ t, cardInForm))
+    bad-start h e q w i j x t =
+        sym (simp (ap not (sym e) ∙ q, le-ltb cardColumns (length card) w, judged card k f g s (every isBlank (columns 1 5 card)) h i j x ∙ t, cardInForm))
 
-    module _ (m : Bool) where
-      abbrev Number : Type 0
-      Number = m ≡ (not (isComment card) && not (numbered card))
-
-      pub bad-number : p ≡ every printable card → not p ≡ false → length card ≤ 80 → Start → s ≡ false → Number → m ≡ true → Refused (BadNumber n) ≡ cardInForm n card o
+    module _ (d m : Bool) where
+      pub bad-number : kindIs k ≡ kindOf card → p ≡ every printable card → not p ≡ false → length card ≤ cardColumns → f ≡ free (kindIs k) → g ≡ every isBlank (columns 1 5 card) → s ≡ (not f && not g) → s ≡ false → d ≡ numbered card → m ≡ (not f && not d) → m ≡ true → Refused (BadNumber n) ≡ cardInForm n card o
       unfolding cardInForm
-      bad-number e q w f t g u = sym (simp (ap not (sym e) ∙ q, le-ltb 80 (length card) w, sym f ∙ t, sym g ∙ u, cardInForm))
+      bad-number h e q w i j x t y z u =
+          sym (
+          simp (
+            ap not (sym e) ∙ q,
+            le-ltb cardColumns (length card) w,
+            judged card k f g s (every isBlank (columns 1 5 card)) h i j x ∙ t,
+            judged card k f d m (numbered card) h i y z ∙ u,
+            cardInForm,
+          ))
 
-      pub card-judged : (k : CardKind) (r : Carded) → p ≡ every printable card → not p ≡ false → length card ≤ 80 → Start → s ≡ false → Number → m ≡ false → kindIs k ≡ kindOf card → outcomeOf r ≡ opened n (kindIs k) o → outcomeOf r ≡ cardInForm n card o
+      pub card-judged : (r : Carded) → kindIs k ≡ kindOf card → p ≡ every printable card → not p ≡ false → length card ≤ cardColumns → f ≡ free (kindIs k) → g ≡ every isBlank (columns 1 5 card) → s ≡ (not f && not g) → s ≡ false → d ≡ numbered card → m ≡ (not f && not d) → m ≡ false → outcomeOf r ≡ opened n (kindIs k) o → outcomeOf r ≡ cardInForm n card o
       unfolding cardInForm
-      card-judged k r e q w f t g u h i = i ∙ ap (λ (x : Kind). opened n x o) h ∙ sym (simp (ap not (sym e) ∙ q, le-ltb 80 (length card) w, sym f ∙ t, sym g ∙ u, cardInForm))
+      card-judged r h e q w i j x t y z u v =
+          v
+          ∙ ap (λ (c : Kind). opened n c o) h
+          ∙ sym (
+          simp (
+            ap not (sym e) ∙ q,
+            le-ltb cardColumns (length card) w,
+            judged card k f g s (every isBlank (columns 1 5 card)) h i j x ∙ t,
+            judged card k f d m (numbered card) h i y z ∙ u,
+            cardInForm,
+          ))
 
 -- ---- general: one by one
 
@@ -425,3 +446,96 @@ module _ (text : List ℕ) (at n hand : ℕ) where
   pub pass-done : length text ≤ at → inForm (cardsOf text) ≡ walk cardInForm n (cardsOf (drop at text)) (openOf hand) → Fine ≡ passed (inForm (cardsOf text))
   unfolding walk ended unended
   pass-done h i = sym (ap passed (i ∙ ap (λ (l : List ℕ). walk cardInForm n (cardsOf l) (openOf hand)) (drop-of-length-le text {i = at} h)))
+
+-- ---- what an answer says
+
+-- No refusal of the first pass is `Fine`.
+abbrev Told : Outcome Open → Type 0
+Told (Got o) = Unit
+Told (Refused a) = a ≡ Fine → ⊥
+
+told-refuse : (t : Bool) (a : Answer) (r : Outcome Open) → (a ≡ Fine → ⊥) → Told r → Told (refuse t a r)
+told-refuse true a r h k = h
+told-refuse false a r h k = k
+
+told-opened : (n : ℕ) (k : Kind) (o : Open) → Told (opened n k o)
+unfolding opened
+told-opened n Comment o = tt
+told-opened n Empty o = tt
+told-opened n Opening o = tt
+told-opened n Continuing Shut = λ e. let z : _≡_ {A = ℕ} 0 1 = cc in omega arith
+told-opened n Continuing (Continued k) = told-refuse (ltb continuations (k + 1)) (TooManyCards n) (Got (Continued (k + 1))) (λ e. let z : _≡_ {A = ℕ} 0 1 = cc in omega arith) tt
+
+told-faults : (a b c d : Bool) (n : ℕ) (r : Outcome Open) → Told r → Told (refuse a (BadByte n) (refuse b (TooWide n) (refuse c (BadStart n) (refuse d (BadNumber n) r))))
+told-faults true b c d n r t = λ e. let z : _≡_ {A = ℕ} 0 1 = cc in omega arith
+told-faults false true c d n r t = λ e. let z : _≡_ {A = ℕ} 0 1 = cc in omega arith
+told-faults false false true d n r t = λ e. let z : _≡_ {A = ℕ} 0 1 = cc in omega arith
+told-faults false false false true n r t = λ e. let z : _≡_ {A = ℕ} 0 1 = cc in omega arith
+told-faults false false false false n r t = t
+
+told-card : (n : ℕ) (card : List ℕ) (o : Open) → Told (cardInForm n card o)
+unfolding cardInForm
+told-card n card o =
+    told-faults
+    (not (every printable card))
+    (ltb cardColumns (length card))
+    (not (isComment card) && not (every isBlank (columns 1 5 card)))
+    (not (isComment card) && not (numbered card))
+    n
+    (opened n (kindOf card) o)
+    (told-opened n (kindOf card) o)
+
+told-walk : (n : ℕ) (cards : List (List ℕ)) (o : Open) → Told (walk cardInForm n cards o)
+unfolding walk
+told-walk n [] o = tt
+told-walk n (c ∷ cs) o = go (cardInForm n c o) refl (told-card n c o) (told-walk (suc n) cs)
+  where
+    go : (r : Outcome Open) → cardInForm n c o ≡ r → Told r → ((p : Open) → Told (walk cardInForm (suc n) cs p)) → Told (walk cardInForm n (c ∷ cs) o)
+    go (Got p) e t f = rw (walk-on cardInForm n c cs o p e) (f p)
+    go (Refused a) e t f = rw (walk-refused cardInForm n c cs o a e) t
+
+module _ (cards : List (List ℕ)) where
+  -- Fine: every card is in form.
+  pub passed-fine : passed (inForm cards) ≡ Fine → (o : Open) × (inForm cards ≡ Got o)
+  passed-fine = go (inForm cards) (told-walk 1 cards Shut)
+    where
+      go : (r : Outcome Open) → Told r → passed r ≡ Fine → (o : Open) × (r ≡ Got o)
+      go (Got o) t e = (o, refl)
+      go (Refused a) t e = absurd (t e)
+
+  -- Not fine: the first pass refuses with that answer.
+  pub passed-refused : (passed (inForm cards) ≡ Fine → ⊥) → inForm cards ≡ Refused (passed (inForm cards))
+  passed-refused = go (inForm cards)
+    where
+      go : (r : Outcome Open) → (passed r ≡ Fine → ⊥) → r ≡ Refused (passed r)
+      go (Got o) n = absurd (n refl)
+      go (Refused a) n = refl
+
+abbrev cardedOf : Outcome Open → Carded
+cardedOf (Got Shut) = Next 0
+cardedOf (Got (Continued k)) = Next (suc k)
+cardedOf (Refused a) = Fault a
+
+carded-outcome : (r : Carded) → cardedOf (outcomeOf r) ≡ r
+carded-outcome (Next zero) = refl
+carded-outcome (Next (suc k)) = refl
+carded-outcome (Fault a) = refl
+
+-- Two answers that mean the same are one.
+pub one-carded : (r s : Carded) → outcomeOf r ≡ outcomeOf s → r ≡ s
+one-carded r s e = sym (carded-outcome r) ∙ ap cardedOf e ∙ carded-outcome s
+
+abbrev namedKind : Kind → CardKind
+namedKind Comment = CommentCard
+namedKind Empty = EmptyCard
+namedKind Opening = OpeningCard
+namedKind Continuing = ContinuingCard
+
+named-kind : (k : CardKind) → namedKind (kindIs k) ≡ k
+named-kind CommentCard = refl
+named-kind EmptyCard = refl
+named-kind OpeningCard = refl
+named-kind ContinuingCard = refl
+
+pub one-kind : (j k : CardKind) → kindIs j ≡ kindIs k → j ≡ k
+one-kind j k e = sym (named-kind j) ∙ ap namedKind e ∙ named-kind k

@@ -28,6 +28,13 @@ kindIs EmptyCard = Empty
 kindIs OpeningCard = Opening
 kindIs ContinuingCard = Continuing
 
+-- The kinds of card that 4 and 5 pass over: comments.
+abbrev pub free : Kind → Bool
+free Comment = true
+free Empty = false
+free Opening = false
+free Continuing = false
+
 -- The open statement as a number: 0 none, k + 1 one that k cards continue.
 abbrev pub openOf : ℕ → Open
 openOf zero = Shut

@@ -1,10 +1,10 @@
 // One card: where it ends, its columns, its kind and its field; and the first pass, card by card, the faults 2 to 7.
 ghost use mathlib.Core.Path.{_≡_};
-ghost use mathlib.Core.Bool.{not, _&&_, _||_};
+ghost use mathlib.Core.Bool.{not, _&&_};
 ghost use Prim.Native.Nat.{ℕ, _+_, _-_, _<_, _≤_, min};
 ghost use lib.ListN.{length, take, drop};
 ghost use Rattle.cards.specs.Card.{cardsOf, fieldStart, fieldEnd, column, columns, every, isBlank, printable, isComment, Continuing, numbered, kindOf, closes, opened, cardInForm, inForm};
-ghost use Rattle.firstpass.specs.Passed.{lineLength, between, kindIs, openOf, outcomeOf, passed};
+ghost use Rattle.firstpass.specs.Passed.{lineLength, between, free, kindIs, openOf, outcomeOf, passed};
 use decks::Answer;
 
 // Document 01's columns: of a card, where the statement field begins and ends; and the continuations that a statement may have.
@@ -65,6 +65,7 @@ fn all_between(part: &[u8], low: u8, high: u8) -> bool
     true
 }
 
+// The smaller of two.
 fn least(a: usize, b: usize) -> usize
     ensures { λ r. ⌜ r ≡ min a b ⌝ }
 {
@@ -129,6 +130,7 @@ pub fn is_comment(card: &[u8]) -> bool
     c == b'*'
 }
 
+// The kind of a card.
 pub fn kind_of(card: &[u8]) -> CardKind
     ensures { λ r. ⌜ kindIs r ≡ kindOf (now (card .entry)) ⌝ }
 {
@@ -169,27 +171,42 @@ pub fn field<'a>(card: &'a [u8]) -> &'a [u8]
     &card[start..end]
 }
 
-// 4: columns 1 to 5 not blank, comments apart.
-fn bad_start(card: &[u8]) -> bool
-    ensures { λ r. ⌜ r ≡ (not (isComment (now (card .entry))) && not (every isBlank (columns 1 5 (now (card .entry))))) ⌝ }
+// Comments are free of 4 and 5.
+fn is_free(kind: CardKind) -> bool
+    ensures { λ r. ⌜ r ≡ free (kindIs kind) ⌝ }
 {
-    if is_comment(card) {
-        return false;
+    match kind {
+        CardKind::Comment => true,
+        CardKind::Empty => false,
+        CardKind::Opening => false,
+        CardKind::Continuing => false,
     }
-    !blank_columns(card, 1, 5)
 }
 
-// 5: columns 73 to 80 wrong, comments apart.
-fn bad_number(card: &[u8]) -> bool
-    ensures { λ r. ⌜ r ≡ (not (isComment (now (card .entry))) && not (numbered (now (card .entry)))) ⌝ }
+// Not right, on a card that is not free of it.
+fn is_wrong(free: bool, right: bool) -> bool
+    ensures { λ r. ⌜ r ≡ (not free && not right) ⌝ }
 {
-    if is_comment(card) {
+    if free {
         return false;
     }
-    !is_numbered(card)
+    !right
 }
 
-// What a card of this kind, number n, makes of the open statement: 6 and 7.
+// A continuation card, number n: 6 and 7.
+fn continued(n: u64, hand: u64) -> Carded
+    ensures { λ r. ⌜ outcomeOf r ≡ opened n Continuing (openOf hand) ⌝ }
+{
+    if hand == 0 {
+        return Carded::Fault(Answer::NoneOpen(n));
+    }
+    if CONTINUATIONS < hand {
+        return Carded::Fault(Answer::TooManyCards(n));
+    }
+    Carded::Next(hand + 1)
+}
+
+// What a card of this kind, number n, makes of the open statement.
 fn opened(n: u64, kind: CardKind, hand: u64) -> Carded
     ensures { λ r. ⌜ outcomeOf r ≡ opened n (kindIs kind) (openOf hand) ⌝ }
 {
@@ -204,35 +221,25 @@ fn opened(n: u64, kind: CardKind, hand: u64) -> Carded
     }
 }
 
-fn continued(n: u64, hand: u64) -> Carded
-    ensures { λ r. ⌜ outcomeOf r ≡ opened n Continuing (openOf hand) ⌝ }
-{
-    if hand == 0 {
-        return Carded::Fault(Answer::NoneOpen(n));
-    }
-    if CONTINUATIONS < hand {
-        return Carded::Fault(Answer::TooManyCards(n));
-    }
-    Carded::Next(hand + 1)
-}
-
-// Card n behind an open statement: 2 to 7 in number order.
+// Card n, with what the cards before it left open: 2 to 7 in number order.
 pub fn card_fault(card: &[u8], n: u64, hand: u64) -> Carded
     ensures { λ r. ⌜ outcomeOf r ≡ cardInForm n (now (card .entry)) (openOf hand) ⌝ }
 {
+    let kind = kind_of(card);
     if !all_printable(card) {
         return Carded::Fault(Answer::BadByte(n));
     }
     if COLUMNS < card.len() {
         return Carded::Fault(Answer::TooWide(n));
     }
-    if bad_start(card) {
+    let free = is_free(kind);
+    if is_wrong(free, blank_columns(card, 1, 5)) {
         return Carded::Fault(Answer::BadStart(n));
     }
-    if bad_number(card) {
+    if is_wrong(free, is_numbered(card)) {
         return Carded::Fault(Answer::BadNumber(n));
     }
-    opened(n, kind_of(card), hand)
+    opened(n, kind, hand)
 }
 
 // The first pass, card by card: fine, or the first card's fault.
