@@ -1,0 +1,414 @@
+-- Laws of the statement in hand and of the walk from statement to statement.
+use mathlib.Core.Path.{_≡_, refl, sym, ap, ap₂, _∙_, subst}
+use mathlib.Core.Bool.{Bool, true, false, not, _&&_, _||_}
+use mathlib.Core.List.{List, [], _∷_, _++_, append-assoc, append-nil}
+use Prim.Native.Nat.{ℕ, zero, suc, _+_, _-_, _*_, _<_, _≤_}
+use native.Mathlib.Omega.{arith}
+use native.Mathlib.Numerals.{add-one}
+use lib.Dec.{ltb}
+use lib.ListN.{length, take, drop, getD, set, replicate, length-append, length-take, length-drop, length-replicate, drop-of-length-le}
+use lib.Seq.{take-all, take-suc, drop-append-le, drop-at, drop-drop}
+use borrow.Author.Tests.{ltb-false}
+use Rattle.lists.specs.Lists.{padded, splice, ended, unended}
+use Rattle.lists.proofs.Laws.{padded-snoc, take-padded, splice-nothing, splice-splice, set-splice, length-splice}
+use Rattle.decks.specs.declared.Answer.{Answer}
+use Rattle.decks.specs.declared.Answer.the-variants.{BadByte, TooWide, BadStart, BadNumber, NoneOpen, TooManyCards}
+use Rattle.decks.specs.Answers.{Outcome, Got, Refused, refuse}
+use Rattle.decks.specs.Readings.{walk}
+use Rattle.cards.specs.Card.{cardsOf, blank, cardColumns, every, isBlank, isComment, printable, numbered, fieldStart, fieldEnd, fieldColumns, column, columns, continuations, Kind, Comment, Empty, Opening, Continuing, kindOf, closes, Open, Shut, Continued, opened, cardInForm}
+use Rattle.cards.specs.Statement.{Statement, Hand, Nothing, Held, laid, gathered, fieldOf, folded}
+use Rattle.firstpass.specs.declared.CardKind.{CardKind}
+use Rattle.firstpass.specs.declared.CardKind.the-variants.{Continuing as ContinuingCard}
+use Rattle.firstpass.specs.Passed.{lineLength, kindIs}
+use Rattle.firstpass.proofs.Laws.{cards-next, field-filled}
+use Rattle.statements.specs.declared.Stmt.{Stmt}
+use Rattle.statements.specs.declared.Taken.{Taken}
+use Rattle.statements.specs.Hold.{characters, statementCards, held, stmtOf, Room, filled, withCard, foldedIn, opens, Formed, cardAt, AtOpening, FirstOf, Takes}
+
+-- ---- a field put behind those in hand
+
+pub length-filled : (f : List ℕ) → length f ≤ 66 → length (filled f) ≡ 66
+length-filled f h = omega (arith, length-append f (replicate (66 - length f) blank), length-replicate {A = ℕ} (66 - length f) blank)
+
+-- general: a place of a list that is filled up.
+getD-filled : (f : List ℕ) (m i x d : ℕ) → i < length f + m → getD (f ++ replicate m x) i d ≡ getD f i x
+getD-filled [] zero i x d h = absurd (omega arith)
+getD-filled [] (suc m) zero x d h = refl
+getD-filled [] (suc m) (suc i) x d h = getD-filled [] m i x d (omega arith)
+getD-filled (y ∷ ys) m zero x d h = refl
+getD-filled (y ∷ ys) m (suc i) x d h = getD-filled ys m i x d (omega arith)
+
+pub fill-none : (at : ℕ) (f l : List ℕ) → l ≡ splice at (take 0 (filled f)) l
+fill-none at f l = sym (splice-nothing at l)
+
+pub fill-on : (at i c : ℕ) (f l m : List ℕ) → i < 66 → length f ≤ 66 → at + 66 ≤ 1320 → length l ≡ 1320 → m ≡ splice at (take i (filled f)) l → c ≡ column (i + 1) f → set m (at + i) c ≡ splice at (take (i + 1) (filled f)) l
+fill-on at i c f l m h w r n e q =
+    let v : List ℕ = filled f in
+    let long : length v ≡ 66 = length-filled f w in
+    let some : length (take i v) ≡ i = omega (arith, length-take i v) in
+    let whole : length (splice at (take i v) l) ≡ length l = length-splice at (take i v) l (omega arith) in
+    let place : i + 1 - 1 ≡ i = omega arith in
+    let here : c ≡ getD v i 0 = q ∙ ap (λ (k : ℕ). getD f k blank) place ∙ sym (getD-filled f (66 - length f) i blank 0 (omega arith)) in
+    let more : take i v ++ (c ∷ []) ≡ take (i + 1) v = ap (λ (x : ℕ). take i v ++ (x ∷ [])) here ∙ sym (take-suc v i 0 (omega arith)) ∙ ap (λ (k : ℕ). take k v) (sym (add-one i)) in
+    ap (λ (x : List ℕ). set x (at + i) c) e
+    ∙ set-splice (splice at (take i v) l) (at + i) c (omega arith)
+    ∙ ap (λ (k : ℕ). splice (at + k) (c ∷ []) (splice at (take i v) l)) (sym some)
+    ∙ splice-splice at (take i v) (c ∷ []) l (omega arith)
+    ∙ ap (λ (x : List ℕ). splice at x l) more
+
+-- One more card in hand, with these characters.
+abbrev withChars : Stmt → ℕ → List ℕ → Stmt
+withChars s n chars = record { chars = chars; used = s .used + 66; cards = set (s .cards) (s .count) n; count = s .count + 1 }
+
+pub fill-done : (s : Stmt) (n i : ℕ) (f m : List ℕ) → 66 ≤ i → length f ≤ 66 → m ≡ splice (s .used) (take i (filled f)) (s .chars) → withChars s n m ≡ withCard s n f
+fill-done s n i f m h w e =
+    ap
+    (withChars s n)
+    (e ∙ ap (λ (x : List ℕ). splice (s .used) x (s .chars)) (take-all i (filled f) (omega (arith, length-filled f w))))
+
+-- ---- general: one part behind a list that is filled up with zeros
+
+drop-zeros : (k n : ℕ) → drop {A = ℕ} k (replicate n 0) ≡ replicate (n - k) 0
+drop-zeros zero n = let e : n - 0 ≡ n = omega arith in ap (λ (j : ℕ). replicate j 0) (sym e)
+drop-zeros (suc k) zero = let e : 0 - suc k ≡ 0 = omega arith in ap (λ (j : ℕ). replicate j 0) (sym e)
+drop-zeros (suc k) (suc n) = drop-zeros k n ∙ (let e : n - k ≡ suc n - suc k = omega arith in ap (λ (j : ℕ). replicate j 0) e)
+
+pub splice-padded : (n : ℕ) (l v : List ℕ) → splice (length l) v (padded n l) ≡ padded n (l ++ v)
+splice-padded n l v =
+    let z : List ℕ = replicate (n - length l) 0 in
+    let less : n - length l - length v ≡ n - length (l ++ v) = omega (arith, length-append l v) in
+    ap (λ (x : List ℕ). x ++ (v ++ drop (length l + length v) (padded n l))) (take-padded n l)
+    ∙ ap (λ (x : List ℕ). l ++ (v ++ x)) (sym (drop-drop (length v) (length l) (l ++ z)) ∙ ap (drop (length v)) (drop-at l z (length l) refl) ∙ drop-zeros (length v) (n - length l) ∙ ap (λ (k : ℕ). replicate k 0) less)
+    ∙ sym (append-assoc l v (replicate (n - length (l ++ v)) 0))
+
+-- One more card in hand.
+pub held-more : (ks fs f : List ℕ) (n : ℕ) → length ks < 20 → length f ≤ 66 → withCard (held ks fs) n f ≡ held (ks ++ n ∷ []) (fs ++ filled f)
+held-more ks fs f n k w =
+    let used : length fs + 66 ≡ length (fs ++ filled f) = omega (arith, length-append fs (filled f), length-filled f w) in
+    let count : length ks + 1 ≡ length (ks ++ n ∷ []) = omega (arith, length-append ks (n ∷ [])) in
+    rw (splice-padded 1320 fs (filled f), used, padded-snoc 20 ks n k, count) refl
+
+-- ---- the cards in form
+
+refuse-got : {A : Type 0} (b : Bool) (a : Answer) (r : Outcome A) (p : A) → refuse b a r ≡ Got p → r ≡ Got p
+refuse-got true a r p e = let z : _≡_ {A = ℕ} 0 1 = cc in absurd (omega arith)
+refuse-got false a r p e = e
+
+faults-got : (a b c d : Bool) (n : ℕ) (r : Outcome Open) (p : Open) → refuse a (BadByte n) (refuse b (TooWide n) (refuse c (BadStart n) (refuse d (BadNumber n) r))) ≡ Got p → r ≡ Got p
+faults-got a b c d n r p e =
+    refuse-got d (BadNumber n) r p
+    (refuse-got c (BadStart n) (refuse d (BadNumber n) r) p
+    (refuse-got b (TooWide n) (refuse c (BadStart n) (refuse d (BadNumber n) r)) p
+    (refuse-got a (BadByte n) (refuse b (TooWide n) (refuse c (BadStart n) (refuse d (BadNumber n) r))) p e)))
+
+-- What a card in form makes of the open statement.
+opened-got : (n : ℕ) (card : List ℕ) (o p : Open) → cardInForm n card o ≡ Got p → opened n (kindOf card) o ≡ Got p
+unfolding cardInForm
+opened-got n card o p e =
+    faults-got
+    (not (every printable card))
+    (ltb cardColumns (length card))
+    (not (isComment card) && not (every isBlank (columns 1 5 card)))
+    (not (isComment card) && not (numbered card))
+    n
+    (opened n (kindOf card) o)
+    p
+    e
+
+walk-next : (n : ℕ) (c : List ℕ) (cs : List (List ℕ)) (o p : Open) → walk cardInForm n (c ∷ cs) o ≡ Got p → (q : Open) × (opened n (kindOf c) o ≡ Got q) × (walk cardInForm (suc n) cs q ≡ Got p)
+unfolding walk
+walk-next n c cs o p e = go (cardInForm n c o) refl
+  where
+    go : (r : Outcome Open) → cardInForm n c o ≡ r → (q : Open) × (opened n (kindOf c) o ≡ Got q) × (walk cardInForm (suc n) cs q ≡ Got p)
+    go (Got q) f = (q, opened-got n c o q f, sym (simp (f, walk)) ∙ e)
+    go (Refused a) f = let x : Refused a ≡ Got p = sym (simp (f, walk)) ∙ e in let z : _≡_ {A = ℕ} 0 1 = cc in absurd (omega arith)
+
+-- Behind a card in form come cards in form.
+pub formed-next : (n : ℕ) (c : List ℕ) (cs : List (List ℕ)) → Formed n (c ∷ cs) → Formed (suc n) cs
+formed-next n c cs f = let w = walk-next n c cs (f .before) (f .behind) (f .walked) in record { before = w .0; behind = f .behind; walked = w .2 }
+
+-- A card that opens no statement, with none in hand, is passed over.
+passed-over : (n : ℕ) (c : List ℕ) (cs : List (List ℕ)) (k : Kind) → k ≡ kindOf c → opens k ≡ false → gathered n (c ∷ cs) Nothing ≡ gathered (suc n) cs Nothing
+unfolding gathered
+passed-over n c cs Comment e o = simp (← e, gathered)
+passed-over n c cs Empty e o = simp (← e, gathered)
+passed-over n c cs Opening e o = let z : _≡_ {A = ℕ} 0 1 = cc in absurd (omega arith)
+passed-over n c cs Continuing e o = simp (← e, gathered)
+
+-- The one that opens one is in hand.
+taken-up : (n : ℕ) (c : List ℕ) (cs : List (List ℕ)) → kindOf c ≡ Opening → gathered n (c ∷ cs) Nothing ≡ gathered (suc n) cs (Held (record { card = n; further = []; field = fieldOf c }))
+unfolding gathered
+taken-up n c cs e = simp (e, gathered)
+
+opening-is : (k : Kind) → opens k ≡ true → k ≡ Opening
+opening-is Comment e = let z : _≡_ {A = ℕ} 0 1 = cc in absurd (omega arith)
+opening-is Empty e = let z : _≡_ {A = ℕ} 0 1 = cc in absurd (omega arith)
+opening-is Opening e = refl
+opening-is Continuing e = let z : _≡_ {A = ℕ} 0 1 = cc in absurd (omega arith)
+
+-- Before a card that ends it the statement in hand is laid down.
+closed-before : (b : Bool) (s : Statement) (xs ys : List Statement) → (b || false) ≡ true → elim b [ true ↦ laid (Held s) xs | false ↦ ys ] ≡ s ∷ elim b [ true ↦ xs | false ↦ xs ]
+closed-before true s xs ys e = refl
+closed-before false s xs ys e = let z : _≡_ {A = ℕ} 0 1 = cc in absurd (omega arith)
+
+laid-down : (n : ℕ) (c : List ℕ) (cs : List (List ℕ)) (s : Statement) (k : Kind) → k ≡ kindOf c → (closes k || opens k) ≡ true → gathered n (c ∷ cs) (Held s) ≡ s ∷ gathered n (c ∷ cs) Nothing
+unfolding gathered
+laid-down n c cs s Comment e o = simp (← e, gathered) (closed-before (closes Comment) s (gathered (suc n) cs Nothing) (gathered (suc n) cs (Held s)) o)
+laid-down n c cs s Empty e o = simp (← e, gathered) (closed-before (closes Empty) s (gathered (suc n) cs Nothing) (gathered (suc n) cs (Held s)) o)
+laid-down n c cs s Opening e o = simp (← e, gathered)
+laid-down n c cs s Continuing e o = let z : _≡_ {A = ℕ} 0 1 = cc in absurd (omega arith)
+
+-- What a card that does not end it makes of the statement in hand.
+abbrev goneOn : Kind → ℕ → List ℕ → Statement → Statement
+goneOn Comment n c s = s
+goneOn Empty n c s = s
+goneOn Opening n c s = s
+goneOn Continuing n c s = record { card = s .card; further = s .further ++ (n ∷ []); field = s .field ++ fieldOf c }
+
+kept-on : (b : Bool) (xs ys : List Statement) → (b || false) ≡ false → elim b [ true ↦ xs | false ↦ ys ] ≡ ys
+kept-on true xs ys e = let z : _≡_ {A = ℕ} 0 1 = cc in absurd (omega arith)
+kept-on false xs ys e = refl
+
+gone-on : (n : ℕ) (c : List ℕ) (cs : List (List ℕ)) (s : Statement) (k : Kind) → k ≡ kindOf c → (closes k || opens k) ≡ false → gathered n (c ∷ cs) (Held s) ≡ gathered (suc n) cs (Held (goneOn k n c s))
+unfolding gathered
+gone-on n c cs s Comment e o = simp (← e, gathered) (kept-on (closes Comment) (s ∷ gathered (suc n) cs Nothing) (gathered (suc n) cs (Held s)) o)
+gone-on n c cs s Empty e o = simp (← e, gathered) (kept-on (closes Empty) (s ∷ gathered (suc n) cs Nothing) (gathered (suc n) cs (Held s)) o)
+gone-on n c cs s Opening e o = let z : _≡_ {A = ℕ} 0 1 = cc in absurd (omega arith)
+gone-on n c cs s Continuing e o = simp (← e, gathered)
+
+-- ---- to the next card that opens a statement
+
+module _ (text : List ℕ) (at n i k end : ℕ) (kd : CardKind) (b : Bool) where
+  abbrev Same : Type 0
+  Same = gathered n (cardsOf (drop at text)) Nothing ≡ gathered k (cardsOf (drop i text)) Nothing
+
+  abbrev Ends : Type 0
+  Ends = end ≡ i + lineLength (drop i text)
+
+  abbrev KindHere : Type 0
+  KindHere = kindIs kd ≡ kindOf (take (end - i) (drop i text))
+
+  pub met : at ≤ i → k ≤ i + 1 → Same → Formed k (cardsOf (drop i text)) → Ends → KindHere → b ≡ opens (kindIs kd) → b ≡ true → AtOpening text at n i k
+  met o l s f e q p t =
+      let long : end - i ≡ lineLength (drop i text) = omega arith in
+      record {
+        onward = o;
+        near = l;
+        same = s;
+        formed = f;
+        opener = λ h. ap (λ (j : ℕ). kindOf (take j (drop i text))) (sym long) ∙ sym q ∙ opening-is (kindIs kd) (sym p ∙ t);
+      }
+
+  pub same-on : i < length text → Same → Ends → KindHere → b ≡ opens (kindIs kd) → b ≡ false → gathered n (cardsOf (drop at text)) Nothing ≡ gathered (k + 1) (cardsOf (drop (end + 1) text)) Nothing
+  same-on h s e q p t =
+      let c : List ℕ = take (end - i) (drop i text) in
+      let cs : List (List ℕ) = cardsOf (drop (end + 1) text) in
+      s
+      ∙ ap (λ (x : List (List ℕ)). gathered k x Nothing) (cards-next text i end h e)
+      ∙ passed-over k c cs (kindIs kd) q (sym p ∙ t)
+      ∙ ap (λ (j : ℕ). gathered j cs Nothing) (sym (add-one k))
+
+module _ (text : List ℕ) (at n i k : ℕ) where
+  pub formed-on : (end : ℕ) → i < length text → end ≡ i + lineLength (drop i text) → Formed k (cardsOf (drop i text)) → Formed (k + 1) (cardsOf (drop (end + 1) text))
+  formed-on end h e f =
+      let cs : List (List ℕ) = cardsOf (drop (end + 1) text) in
+      subst (λ (j : ℕ). Formed j cs) (sym (add-one k)) (formed-next k (take (end - i) (drop i text)) cs (subst (Formed k) (cards-next text i end h e) f))
+
+  pub met-none : at ≤ i → k ≤ i + 1 → gathered n (cardsOf (drop at text)) Nothing ≡ gathered k (cardsOf (drop i text)) Nothing → Formed k (cardsOf (drop i text)) → length text ≤ i → AtOpening text at n i k
+  met-none o l s f h = record { onward = o; near = l; same = s; formed = f; opener = λ g. absurd (omega arith) }
+
+-- ---- the statement in hand
+
+-- At place i, where card k begins: what is in hand is a statement as memory holds it, with its cards in form so far, and all statements from place at on are this one and what follows.
+pub record Taking (text : List ℕ) (at n : ℕ) (stmt : Stmt) (i k : ℕ) : Type 0 where
+  pub inHand : Statement
+  pub is : stmt ≡ stmtOf inHand
+  pub long : length (inHand .field) ≡ 66 * (length (inHand .further) + 1)
+  pub follows : gathered n (cardsOf (drop at text)) Nothing ≡ gathered k (cardsOf (drop i text)) (Held inHand)
+  pub behind : Open
+  pub walked : walk cardInForm k (cardsOf (drop i text)) (Continued (length (inHand .further))) ≡ Got behind
+  pub onward : at < i
+  pub near : k ≤ i + 1
+
+-- The part of a card that is its field.
+abbrev partOfField : List ℕ → List ℕ
+partOfField card = drop (fieldStart - 1) (take fieldEnd card)
+
+pub part-short : (card : List ℕ) → length (partOfField card) ≤ 66
+part-short card = omega (arith, length-drop 6 (take 72 card), length-take 72 card)
+
+pub field-short : (part card : List ℕ) → part ≡ partOfField card → length part ≤ 66
+field-short part card e = rw e (part-short card)
+
+pub room-none : (s : Stmt) → s ≡ held [] [] → Room s
+room-none s e = rw e (omega arith, omega arith)
+
+pub room-asked : (s : Stmt) (kd : CardKind) → (kindIs kd ≡ Continuing → Room s) → kd ≡ ContinuingCard → Room s
+room-asked s kd h e = h (ap kindIs e)
+
+pub continuation-folds : (r s : Stmt) (kd : CardKind) (n : ℕ) (part card : List ℕ) → kd ≡ ContinuingCard → part ≡ partOfField card → r ≡ withCard s n part → r ≡ foldedIn s (kindIs kd) n card
+continuation-folds r s kd n part card k e q = q ∙ ap (withCard s n) e ∙ ap (λ (x : CardKind). foldedIn s (kindIs x) n card) (sym k)
+
+length-field : (card : List ℕ) → length (fieldOf card) ≡ 66
+length-field card = ap length (sym (field-filled card)) ∙ length-filled (partOfField card) (part-short card)
+
+open-now : (n : ℕ) (o q : Open) (k : Kind) → k ≡ Opening → opened n k o ≡ Got q → Got q ≡ Got (Continued 0)
+unfolding opened
+open-now n o q k e g = sym g ∙ rw e refl
+
+got-one : (p q : Open) → _≡_ {A = Outcome Open} (Got p) (Got q) → p ≡ q
+got-one p q e = ap (λ (r : Outcome Open). elim r [ Got x ↦ x | Refused a ↦ Shut ]) e
+
+pub begun : (text : List ℕ) (at n i k end : ℕ) (none stmt : Stmt) (part : List ℕ) → AtOpening text at n i k → i < length text → end ≡ i + lineLength (drop i text) → part ≡ partOfField (take (end - i) (drop i text)) → none ≡ held [] [] → stmt ≡ withCard none k part → Taking text at n stmt (end + 1) (k + 1)
+begun text at n i k end none stmt part a h e q o s =
+    let c : List ℕ = take (end - i) (drop i text) in
+    let cs : List (List ℕ) = cardsOf (drop (end + 1) text) in
+    let long : lineLength (drop i text) ≡ end - i = omega arith in
+    let opener : kindOf c ≡ Opening = ap (λ (j : ℕ). kindOf (take j (drop i text))) (sym long) ∙ a .opener h in
+    let w = walk-next k c cs (a .formed .before) (a .formed .behind) (subst (λ (x : List (List ℕ)). walk cardInForm k x (a .formed .before) ≡ Got (a .formed .behind)) (cards-next text i end h e) (a .formed .walked)) in
+    let shut : w .0 ≡ Continued 0 = got-one (w .0) (Continued 0) (open-now k (a .formed .before) (w .0) (kindOf c) opener (w .1)) in
+    record {
+      inHand = record { card = k; further = []; field = fieldOf c };
+      is = s ∙ ap (λ (x : Stmt). withCard x k part) o ∙ ap (withCard (held [] []) k) q ∙ held-more [] [] (partOfField c) k (omega arith) (part-short c) ∙ ap (held (k ∷ [])) (field-filled c);
+      long = length-field c;
+      follows = a .same ∙ ap (λ (x : List (List ℕ)). gathered k x Nothing) (cards-next text i end h e) ∙ taken-up k c cs opener ∙ ap (λ (j : ℕ). gathered j cs (Held (record { card = k; further = []; field = fieldOf c }))) (sym (add-one k));
+      behind = a .formed .behind;
+      walked = ap (λ (j : ℕ). walk cardInForm j cs (Continued 0)) (add-one k) ∙ ap (walk cardInForm (suc k) cs) (sym shut) ∙ w .2;
+      onward = omega (arith, a .onward);
+      near = omega (arith, a .near);
+    }
+
+refuse-not : {A : Type 0} (b : Bool) (a : Answer) (r : Outcome A) (p : A) → refuse b a r ≡ Got p → b ≡ false
+refuse-not true a r p e = let z : _≡_ {A = ℕ} 0 1 = cc in absurd (omega arith)
+refuse-not false a r p e = refl
+
+-- A continuation in form is the nineteenth at most.
+few-on : (n j : ℕ) (q : Open) → opened n Continuing (Continued j) ≡ Got q → j + 1 ≤ 19
+unfolding opened
+few-on n j q e = ltb-false 19 (j + 1) (refuse-not (ltb continuations (j + 1)) (TooManyCards n) (Got (Continued (j + 1))) q e)
+
+kept-open : (b : Bool) (o : Open) → (b || false) ≡ false → elim b [ true ↦ Shut | false ↦ o ] ≡ o
+kept-open true o e = let z : _≡_ {A = ℕ} 0 1 = cc in absurd (omega arith)
+kept-open false o e = refl
+
+-- The open statement and the one in hand have the same continuations.
+state-on : (n : ℕ) (c : List ℕ) (s : Statement) (k : Kind) (q : Open) → (closes k || opens k) ≡ false → opened n k (Continued (length (s .further))) ≡ Got q → q ≡ Continued (length (goneOn k n c s .further))
+unfolding opened
+state-on n c s Comment q o e = sym (got-one _ q e) ∙ kept-open (closes Comment) (Continued (length (s .further))) o
+state-on n c s Empty q o e = sym (got-one _ q e) ∙ kept-open (closes Empty) (Continued (length (s .further))) o
+state-on n c s Opening q o e = let z : _≡_ {A = ℕ} 0 1 = cc in absurd (omega arith)
+state-on n c s Continuing q o e =
+    let j : ℕ = length (s .further) in
+    let more : j + 1 ≡ length (s .further ++ n ∷ []) = omega (arith, length-append (s .further) (n ∷ [])) in
+    sym (got-one (Continued (j + 1)) q (refuse-got (ltb continuations (j + 1)) (TooManyCards n) (Got (Continued (j + 1))) q e)) ∙ ap Continued more
+
+held-on : (n : ℕ) (c : List ℕ) (s : Statement) (k : Kind) → (k ≡ Continuing → length (s .further) + 1 ≤ 19) → foldedIn (stmtOf s) k n c ≡ stmtOf (goneOn k n c s)
+held-on n c s Comment h = refl
+held-on n c s Empty h = refl
+held-on n c s Opening h = refl
+held-on n c s Continuing h =
+    held-more (s .card ∷ s .further) (s .field) (partOfField c) n (omega (arith, h refl)) (part-short c)
+    ∙ ap (λ (f : List ℕ). held (s .card ∷ (s .further ++ n ∷ [])) (s .field ++ f)) (field-filled c)
+
+long-on : (n : ℕ) (c : List ℕ) (s : Statement) (k : Kind) → length (s .field) ≡ 66 * (length (s .further) + 1) → length (goneOn k n c s .field) ≡ 66 * (length (goneOn k n c s .further) + 1)
+long-on n c s Comment h = h
+long-on n c s Empty h = h
+long-on n c s Opening h = h
+long-on n c s Continuing h = omega (arith, length-append (s .field) (fieldOf c), length-append (s .further) (n ∷ []), length-field c)
+
+no-cards : (text : List ℕ) (i : ℕ) → length text ≤ i → cardsOf (drop i text) ≡ []
+unfolding ended unended
+no-cards text i h = ap cardsOf (drop-of-length-le text {i = i} h)
+
+first-of : (all rest : List Statement) (s : Statement) (stmt : Stmt) → all ≡ s ∷ rest → stmt ≡ stmtOf s → FirstOf all true stmt rest
+first-of all rest s stmt e q = rw e (refl, q, refl)
+
+module _ (text : List ℕ) (at n i k : ℕ) (stmt : Stmt) where
+  taken : (t : Taking text at n stmt i k) → gathered k (cardsOf (drop i text)) (Held (t .inHand)) ≡ t .inHand ∷ gathered k (cardsOf (drop i text)) Nothing → Takes text at n (record { found = true; stmt = stmt; at = i; n = k })
+  taken t e =
+      record {
+        first = first-of (gathered n (cardsOf (drop at text)) Nothing) (gathered k (cardsOf (drop i text)) Nothing) (t .inHand) stmt (t .follows ∙ e) (t .is);
+        onward = λ _. t .onward;
+        near = t .near;
+        formed = record { before = Continued (length (t .inHand .further)); behind = t .behind; walked = t .walked };
+      }
+
+  module _ (end : ℕ) (kd : CardKind) (b : Bool) where
+    abbrev card : List ℕ
+    card = take (end - i) (drop i text)
+
+    abbrev cards : List (List ℕ)
+    cards = cardsOf (drop (end + 1) text)
+
+    abbrev EndsHere : Type 0
+    EndsHere = end ≡ i + lineLength (drop i text)
+
+    abbrev IsKind : Type 0
+    IsKind = kindIs kd ≡ kindOf card
+
+    step : (t : Taking text at n stmt i k) → i < length text → EndsHere → IsKind → (q : Open) × (opened k (kindIs kd) (Continued (length (t .inHand .further))) ≡ Got q) × (walk cardInForm (suc k) cards q ≡ Got (t .behind))
+    step t h e d =
+        let o : Open = Continued (length (t .inHand .further)) in
+        let w = walk-next k card cards o (t .behind) (subst (λ (x : List (List ℕ)). walk cardInForm k x o ≡ Got (t .behind)) (cards-next text i end h e) (t .walked)) in
+        (w .0, ap (λ (x : Kind). opened k x o) d ∙ w .1, w .2)
+
+    few : (t : Taking text at n stmt i k) → i < length text → EndsHere → IsKind → kindIs kd ≡ Continuing → length (t .inHand .further) + 1 ≤ 19
+    few t h e d g =
+        let w = step t h e d in
+        few-on k (length (t .inHand .further)) (w .0) (ap (λ (x : Kind). opened k x (Continued (length (t .inHand .further)))) (sym g) ∙ w .1)
+
+    -- A continuation in form finds room.
+    pub room : Taking text at n stmt i k → i < length text → EndsHere → IsKind → kindIs kd ≡ Continuing → Room stmt
+    room t h e d g = let f = few t h e d g in rw (t .is) (omega (arith, t .long), omega arith)
+
+    -- A card that does not end the statement is folded into it.
+    pub gone : (next : Stmt) → Taking text at n stmt i k → i < length text → EndsHere → IsKind → b ≡ (closes (kindIs kd) || opens (kindIs kd)) → b ≡ false → next ≡ foldedIn stmt (kindIs kd) k card → Taking text at n next (end + 1) (k + 1)
+    gone next t h e d p f s =
+        let w = step t h e d in
+        let st : Statement = goneOn (kindIs kd) k card (t .inHand) in
+        record {
+          inHand = st;
+          is = s ∙ ap (λ (x : Stmt). foldedIn x (kindIs kd) k card) (t .is) ∙ held-on k card (t .inHand) (kindIs kd) (few t h e d);
+          long = long-on k card (t .inHand) (kindIs kd) (t .long);
+          follows = t .follows ∙ ap (λ (x : List (List ℕ)). gathered k x (Held (t .inHand))) (cards-next text i end h e) ∙ gone-on k card cards (t .inHand) (kindIs kd) d (sym p ∙ f) ∙ ap (λ (j : ℕ). gathered j cards (Held st)) (sym (add-one k));
+          behind = t .behind;
+          walked = ap (λ (j : ℕ). walk cardInForm j cards (Continued (length (st .further)))) (add-one k) ∙ ap (walk cardInForm (suc k) cards) (sym (state-on k card (t .inHand) (kindIs kd) (w .0) (sym p ∙ f) (w .1))) ∙ w .2;
+          onward = omega (arith, t .onward);
+          near = omega (arith, t .near);
+        }
+
+    -- Before a card that ends it the statement is taken.
+    pub taken-before : Taking text at n stmt i k → i < length text → EndsHere → IsKind → b ≡ (closes (kindIs kd) || opens (kindIs kd)) → b ≡ true → Takes text at n (record { found = true; stmt = stmt; at = i; n = k })
+    taken-before t h e d p f =
+        let next : cardsOf (drop i text) ≡ card ∷ cards = cards-next text i end h e in
+        taken
+        t
+        (ap (λ (x : List (List ℕ)). gathered k x (Held (t .inHand))) next
+        ∙ laid-down k card cards (t .inHand) (kindIs kd) d (sym p ∙ f)
+        ∙ ap (λ (x : List (List ℕ)). t .inHand ∷ gathered k x Nothing) (sym next))
+
+  -- At the end of the text too.
+  pub taken-last : Taking text at n stmt i k → length text ≤ i → Takes text at n (record { found = true; stmt = stmt; at = i; n = k })
+  unfolding gathered
+  taken-last t h = taken t (rw (no-cards text i h) refl)
+
+-- No card opens a statement: none is taken.
+pub none-taken : (text : List ℕ) (at n i k : ℕ) (stmt : Stmt) → AtOpening text at n i k → length text ≤ i → stmt ≡ held [] [] → Takes text at n (record { found = false; stmt = stmt; at = i; n = k })
+unfolding gathered
+none-taken text at n i k stmt a h s =
+    let none : gathered k (cardsOf (drop i text)) Nothing ≡ [] = rw (no-cards text i h) refl in
+    record { first = rw (a .same, none) (refl, s, refl); onward = λ e. let z : _≡_ {A = ℕ} 0 1 = cc in absurd (omega arith); near = a .near; formed = a .formed }
+
+-- ---- what a caller has of a statement that was taken, and where none was
+
+pub found-first : (all rest : List Statement) (stmt : Stmt) (b : Bool) → FirstOf all b stmt rest → b ≡ true → (s : Statement) × (stmt ≡ stmtOf s) × (all ≡ s ∷ rest)
+found-first [] rest stmt b f e = let z : _≡_ {A = ℕ} 0 1 = cc in absurd (omega arith)
+found-first (s ∷ ss) rest stmt b f e = (s, f .1, ap (λ (x : List Statement). s ∷ x) (sym (f .2)))
+
+pub found-none : (all rest : List Statement) (stmt : Stmt) (b : Bool) → FirstOf all b stmt rest → b ≡ false → all ≡ []
+found-none [] rest stmt b f e = refl
+found-none (s ∷ ss) rest stmt b f e = let z : _≡_ {A = ℕ} 0 1 = cc in absurd (omega arith)
+
+-- The whole text, in form from its first card on.
+pub formed-whole : (text : List ℕ) (o : Open) → walk cardInForm 1 (cardsOf text) Shut ≡ Got o → Formed 1 (cardsOf (drop 0 text))
+formed-whole text o e = record { before = Shut; behind = o; walked = e }
