@@ -1,0 +1,5 @@
+pub mod Signs
+pub mod Arrays
+pub mod Expressions
+pub mod Operators
+pub mod Wholes
