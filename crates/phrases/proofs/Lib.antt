@@ -3,3 +3,4 @@ pub mod Arrays
 pub mod Expressions
 pub mod Operators
 pub mod Wholes
+pub mod Readings
