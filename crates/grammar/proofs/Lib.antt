@@ -1,0 +1,5 @@
+pub mod Ahead
+pub mod Characters
+pub mod Numbers
+pub mod Words
+pub mod Binaries

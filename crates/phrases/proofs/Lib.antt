@@ -1,0 +1,6 @@
+pub mod Signs
+pub mod Arrays
+pub mod Expressions
+pub mod Operators
+pub mod Wholes
+pub mod Readings
