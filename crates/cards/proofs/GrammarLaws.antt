@@ -169,57 +169,11 @@ two-no-digit Or d = omega arith
 two-no-digit Until d = omega arith
 two-no-digit Weak d = omega arith
 
--- ---- spelt, then read
-
--- A character is read as its sign.
-read-sign : (left c : ℕ) (s : Sign) (cs : List ℕ) → signOf c ≡ s → readExpr (suc left) (c ∷ cs) ≡ begins (readExpr left) (c ∷ cs) s cs
-unfolding readExpr
-read-sign left c s cs e = ap (λ (t : Sign). begins (readExpr left) (c ∷ cs) t cs) e
-
-variable-sign : signOf (character "V") ≡ Variable
-unfolding signOf
-variable-sign = refl
-
-bracket-sign : signOf (character "(") ≡ Bracket
-unfolding signOf
-bracket-sign = refl
-
-past-same : (c : ℕ) (xs : List ℕ) (f : List ℕ → Reading) → past c (c ∷ xs) f ≡ f xs
-unfolding past
-past-same c xs f = simp (eq-eqb c c refl, past)
-
-past-joint : (o : Op2) (xs : List ℕ) (f : Op2 → List ℕ → Reading) → pastJoint (sign2 o ∷ xs) f ≡ f o xs
-unfolding pastJoint
-past-joint o xs f = simp (two-joint o, pastJoint)
+-- ---- read, then spelt
 
 spelling-two : (o : Op2) (a b : Expr) (rest : List ℕ) → spelling (Two o a b) ++ rest ≡ character "(" ∷ (spelling a ++ (sign2 o ∷ (spelling b ++ (character ")" ∷ rest))))
 unfolding spelling
 spelling-two o a b rest = simp (append-assoc)
-
--- An expression that no digit follows is read back, with what stands behind it.
-pub spelling-read : (e : Expr) (left : ℕ) (rest : List ℕ) → levels e ≤ left → Below 100 e → NoDigit rest → readExpr left (spelling e ++ rest) ≡ Whole e rest
-unfolding levels spelling
-spelling-read e zero rest h n d = absurd (omega (arith, levels-some e))
-spelling-read (Const b) (suc left) rest h n d = read-sign left (constSign b) _ rest (const-sign b)
-spelling-read (Var v) (suc left) rest h n d = read-sign left (character "V") _ (decimal v ++ rest) variable-sign ∙ ap variable (decimal-read v rest n d)
-spelling-read (One o a) (suc left) rest h n d =
-    read-sign left (sign1 o) _ (spelling a ++ rest) (one-sign o)
-    ∙ ap (λ (r : Reading). onward r (λ b last. Whole (One o b) last)) (spelling-read a left rest (omega arith) n d)
-spelling-read (Two o a b) (suc left) rest h n d =
-    let last : List ℕ = character ")" ∷ rest in
-    let second : List ℕ = spelling b ++ last in
-    ap (readExpr (suc left)) (spelling-two o a b rest)
-    ∙ read-sign left (character "(") _ (spelling a ++ (sign2 o ∷ second)) bracket-sign
-    ∙ ap
-    (λ (r : Reading). onward r (λ x more. pastJoint more (λ p more. onward (readExpr left more) (λ y more. past (character ")") more (λ more. Whole (Two p x y) more)))))
-    (spelling-read a left (sign2 o ∷ second) (omega arith) (n .0) (two-no-digit o))
-    ∙ past-joint o second (λ p more. onward (readExpr left more) (λ y more. past (character ")") more (λ more. Whole (Two p a y) more)))
-    ∙ ap
-    (λ (r : Reading). onward r (λ y more. past (character ")") more (λ more. Whole (Two o a y) more)))
-    (spelling-read b left last (omega arith) (n .1) (λ q. omega arith))
-    ∙ past-same (character ")") rest (λ more. Whole (Two o a b) more)
-
--- ---- read, then spelt
 
 -- What a reading says of the characters that it was made from: a whole expression is spelt there.
 abbrev Says : ℕ → List ℕ → Reading → Type 0
@@ -290,6 +244,52 @@ read-says (suc left) (c ∷ cs) = begins-says left c cs (readExpr left) (read-sa
 -- What is read as an expression is that expression spelt, within the levels and with numbers of one or two digits.
 pub read-spelling : (left : ℕ) (cs : List ℕ) (e : Expr) (rest : List ℕ) → readExpr left cs ≡ Whole e rest → (cs ≡ spelling e ++ rest) × (levels e ≤ left) × Below 100 e
 read-spelling left cs e rest h = subst (Says left cs) h (read-says left cs)
+
+-- ---- spelt, then read
+
+-- A character is read as its sign.
+read-sign : (left c : ℕ) (s : Sign) (cs : List ℕ) → signOf c ≡ s → readExpr (suc left) (c ∷ cs) ≡ begins (readExpr left) (c ∷ cs) s cs
+unfolding readExpr
+read-sign left c s cs e = ap (λ (t : Sign). begins (readExpr left) (c ∷ cs) t cs) e
+
+variable-sign : signOf (character "V") ≡ Variable
+unfolding signOf
+variable-sign = refl
+
+bracket-sign : signOf (character "(") ≡ Bracket
+unfolding signOf
+bracket-sign = refl
+
+past-same : (c : ℕ) (xs : List ℕ) (f : List ℕ → Reading) → past c (c ∷ xs) f ≡ f xs
+unfolding past
+past-same c xs f = simp (eq-eqb c c refl, past)
+
+past-joint : (o : Op2) (xs : List ℕ) (f : Op2 → List ℕ → Reading) → pastJoint (sign2 o ∷ xs) f ≡ f o xs
+unfolding pastJoint
+past-joint o xs f = simp (two-joint o, pastJoint)
+
+-- An expression that no digit follows is read back, with what stands behind it.
+pub spelling-read : (e : Expr) (left : ℕ) (rest : List ℕ) → levels e ≤ left → Below 100 e → NoDigit rest → readExpr left (spelling e ++ rest) ≡ Whole e rest
+unfolding levels spelling
+spelling-read e zero rest h n d = absurd (omega (arith, levels-some e))
+spelling-read (Const b) (suc left) rest h n d = read-sign left (constSign b) _ rest (const-sign b)
+spelling-read (Var v) (suc left) rest h n d = read-sign left (character "V") _ (decimal v ++ rest) variable-sign ∙ ap variable (decimal-read v rest n d)
+spelling-read (One o a) (suc left) rest h n d =
+    read-sign left (sign1 o) _ (spelling a ++ rest) (one-sign o)
+    ∙ ap (λ (r : Reading). onward r (λ b last. Whole (One o b) last)) (spelling-read a left rest (omega arith) n d)
+spelling-read (Two o a b) (suc left) rest h n d =
+    let last : List ℕ = character ")" ∷ rest in
+    let second : List ℕ = spelling b ++ last in
+    ap (readExpr (suc left)) (spelling-two o a b rest)
+    ∙ read-sign left (character "(") _ (spelling a ++ (sign2 o ∷ second)) bracket-sign
+    ∙ ap
+    (λ (r : Reading). onward r (λ x more. pastJoint more (λ p more. onward (readExpr left more) (λ y more. past (character ")") more (λ more. Whole (Two p x y) more)))))
+    (spelling-read a left (sign2 o ∷ second) (omega arith) (n .0) (two-no-digit o))
+    ∙ past-joint o second (λ p more. onward (readExpr left more) (λ y more. past (character ")") more (λ more. Whole (Two p a y) more)))
+    ∙ ap
+    (λ (r : Reading). onward r (λ y more. past (character ")") more (λ more. Whole (Two o a y) more)))
+    (spelling-read b left last (omega arith) (n .1) (λ q. omega arith))
+    ∙ past-same (character ")") rest (λ more. Whole (Two o a b) more)
 
 -- ---- one level more
 

@@ -4,5 +4,6 @@ pub mod WordLaws
 pub mod TypedLaws
 pub mod StatementLaws
 pub mod ColumnLaws
-pub mod NothingDropped
 pub mod Cases
+pub mod FormLaws
+pub mod NothingDropped

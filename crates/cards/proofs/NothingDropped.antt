@@ -21,7 +21,8 @@ use Rattle.cards.specs.Columns.{CardsAre, deckText, together, Formed}
 use Rattle.cards.proofs.Outcomes.{Given, got-given, given-got, refuse-given, afterwards-given, got-eq, complete-all, all-complete}
 use Rattle.cards.proofs.TypedLaws.{ofVariable, rising-own, typed-all-have, all-have-typed, fits-accepted}
 use Rattle.cards.proofs.StatementLaws.{textOf, sofar, Stated, walk-spelt, spelt-walk}
-use Rattle.cards.proofs.ColumnLaws.{cards-formed, statements-columns, cards-are}
+use Rattle.cards.proofs.ColumnLaws.{cards-are}
+use Rattle.cards.proofs.FormLaws.{cards-formed, statements-columns}
 
 -- The statements of the text, without their blanks, are the spelling of t; t keeps the limits and is complete; d is the deck that t gives.
 abbrev pub Says : List ℕ → Deck → Type 0
