@@ -116,18 +116,18 @@ module _ {A : Type 0} (P : A → Type 0) where
   chosen-either false x y f p = p
 
 -- The character that begins what the sign says.
-abbrev Begins : ℕ → Sign → Type 0
+abbrev pub Begins : ℕ → Sign → Type 0
 Begins c (Constant b) = c ≡ constSign b
 Begins c Variable = c ≡ character "V"
 Begins c (Before o) = c ≡ sign1 o
 Begins c Bracket = c ≡ character "("
 Begins c NoSign = Unit
 
-abbrev Joins : ℕ → Option Op2 → Type 0
+abbrev pub Joins : ℕ → Option Op2 → Type 0
 Joins c (some o) = c ≡ sign2 o
 Joins c none = Unit
 
-sign-begins : (c : ℕ) → Begins c (signOf c)
+pub sign-begins : (c : ℕ) → Begins c (signOf c)
 unfolding signOf
 sign-begins c =
     chosen-either (Begins c) (eqb c 48) _ _ (eqb-true c 48)
@@ -138,7 +138,7 @@ sign-begins c =
     (chosen-either (Begins c) (eqb c 70) _ _ (eqb-true c 70)
     (chosen-either (Begins c) (eqb c 71) _ _ (eqb-true c 71) (chosen-either (Begins c) (eqb c 40) _ _ (eqb-true c 40) tt)))))))
 
-joint-joins : (c : ℕ) → Joins c (jointOf c)
+pub joint-joins : (c : ℕ) → Joins c (jointOf c)
 unfolding jointOf
 joint-joins c =
     chosen-either (Joins c) (eqb c 38) _ _ (eqb-true c 38)
@@ -149,7 +149,7 @@ unfolding signOf
 const-sign false = refl
 const-sign true = refl
 
-one-sign : (o : Op1) → signOf (sign1 o) ≡ Before o
+pub one-sign : (o : Op1) → signOf (sign1 o) ≡ Before o
 unfolding signOf
 one-sign Not = refl
 one-sign Next = refl
@@ -163,7 +163,7 @@ two-joint Or = refl
 two-joint Until = refl
 two-joint Weak = refl
 
-two-no-digit : (o : Op2) → Digit (sign2 o) → ⊥
+pub two-no-digit : (o : Op2) → Digit (sign2 o) → ⊥
 two-no-digit And d = omega arith
 two-no-digit Or d = omega arith
 two-no-digit Until d = omega arith
@@ -248,7 +248,7 @@ read-spelling left cs e rest h = subst (Says left cs) h (read-says left cs)
 -- ---- spelt, then read
 
 -- A character is read as its sign.
-read-sign : (left c : ℕ) (s : Sign) (cs : List ℕ) → signOf c ≡ s → readExpr (suc left) (c ∷ cs) ≡ begins (readExpr left) (c ∷ cs) s cs
+pub read-sign : (left c : ℕ) (s : Sign) (cs : List ℕ) → signOf c ≡ s → readExpr (suc left) (c ∷ cs) ≡ begins (readExpr left) (c ∷ cs) s cs
 unfolding readExpr
 read-sign left c s cs e = ap (λ (t : Sign). begins (readExpr left) (c ∷ cs) t cs) e
 
@@ -256,7 +256,7 @@ variable-sign : signOf (character "V") ≡ Variable
 unfolding signOf
 variable-sign = refl
 
-bracket-sign : signOf (character "(") ≡ Bracket
+pub bracket-sign : signOf (character "(") ≡ Bracket
 unfolding signOf
 bracket-sign = refl
 
@@ -264,7 +264,7 @@ past-same : (c : ℕ) (xs : List ℕ) (f : List ℕ → Reading) → past c (c �
 unfolding past
 past-same c xs f = simp (eq-eqb c c refl, past)
 
-past-joint : (o : Op2) (xs : List ℕ) (f : Op2 → List ℕ → Reading) → pastJoint (sign2 o ∷ xs) f ≡ f o xs
+pub past-joint : (o : Op2) (xs : List ℕ) (f : Op2 → List ℕ → Reading) → pastJoint (sign2 o ∷ xs) f ≡ f o xs
 unfolding pastJoint
 past-joint o xs f = simp (two-joint o, pastJoint)
 

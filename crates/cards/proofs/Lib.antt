@@ -7,3 +7,4 @@ pub mod ColumnLaws
 pub mod Cases
 pub mod FormLaws
 pub mod NothingDropped
+pub mod ExactlyWhen
