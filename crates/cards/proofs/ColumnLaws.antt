@@ -1,25 +1,20 @@
 -- Laws of columns by their numbers, and of the cards of a text.
 use mathlib.Core.Path.{_≡_, refl, sym, ap, ap₂, _∙_, subst}
-use mathlib.Core.Logic.{_⊎_, inl, inr, ⊎-elim, by-cases}
-use mathlib.Core.Bool.{Bool, true, false, not, _&&_, _||_}
-use mathlib.Core.List.{List, [], _∷_, _++_, map, append-assoc, append-nil, cons≢nil}
+use mathlib.Core.Logic.{inl, inr, by-cases}
+use mathlib.Core.Bool.{Bool, true, false, not, _&&_}
+use mathlib.Core.List.{List, [], _∷_, _++_, append-nil, cons≢nil}
 use Prim.Native.Nat.{ℕ, zero, suc, _+_, _-_, _<_, _≤_}
 use native.Mathlib.Omega.{arith}
 use native.Mathlib.Decide.{decLt}
-use borrow.Author.Tests.{ltb-false, leb-true, eqb-true}
-use lib.Dec.{ltb, leb, eqb}
+use borrow.Author.Tests.{leb-true}
+use lib.Dec.{leb, eqb}
 use lib.ListN.{length, take, drop, getD, replicate, drop-of-length-le, List·getD-eq-default}
 use lib.Seq.{drop-cons}
 use Rattle.lists.specs.Lists.{Each, _among_, keep, joined, ended, unended}
-use Rattle.lists.proofs.Laws.{each-append, append-each, keep-pass, keep-fail, keep-append, ended-none, unended-whole, joined-ended, ended-free, unended-free, ended-joined, unended-joined, ended-joined-append, unended-joined-append}
-use Rattle.decks.specs.declared.Answer.the-variants.{BadByte, TooWide, BadStart, BadNumber, NoneOpen, TooManyCards}
-use Rattle.decks.specs.Answers.{Outcome, Got, Refused, refuse}
-use Rattle.decks.specs.Readings.{walk}
-use Rattle.cards.specs.Card.{lastCard, cardsOf, blank, fieldStart, fieldEnd, cardColumns, continuations, columns, every, isBlank, isDigit, printable, Kind, Comment, Empty, Opening, Continuing, isComment, kindOf, closes, numbered, Open, Shut, Continued, opened, cardInForm, inForm}
-use Rattle.cards.specs.Statement.{Statement, fieldOf, inked, Hand, Nothing, Held, laid, folded, gathered, statementsOf}
-use Rattle.cards.specs.Columns.{CardsAre, punched, remark, inkFrom, cardText, deckText, together, Margins, Formed}
-use Rattle.cards.proofs.Outcomes.{Given, given-got, got-given, refuse-given, refuse-not-given, refused-got, got-eq, walk-first}
-use Rattle.cards.proofs.StatementLaws.{textOf}
+use Rattle.lists.proofs.Laws.{each-append, append-each, keep-pass, keep-fail, ended-none, unended-whole, joined-ended, ended-free, unended-free, ended-joined, unended-joined, ended-joined-append, unended-joined-append}
+use Rattle.cards.specs.Card.{lastCard, cardsOf, blank, fieldStart, fieldEnd, columns, every, isBlank, isDigit, printable}
+use Rattle.cards.specs.Statement.{fieldOf, inked}
+use Rattle.cards.specs.Columns.{CardsAre, punched, inkFrom, cardText}
 
 -- general:
 
@@ -30,7 +25,7 @@ both-true false t e = let z : _≡_ {A = ℕ} 0 1 = cc in absurd (omega arith)
 -- ---- columns by their numbers
 
 -- The bytes at the k places from i on, blanks behind the end.
-unfoldable placed : ℕ → ℕ → List ℕ → List ℕ
+unfoldable pub placed : ℕ → ℕ → List ℕ → List ℕ
 placed i zero card = []
 placed i (suc k) card = getD card i blank ∷ placed (suc i) k card
 
@@ -48,7 +43,7 @@ take-placed (suc k) (suc m) i card h = by-cases (decLt i (length card)) (inside 
         ap (λ (x : List ℕ). take (suc k) (x ++ replicate (suc m) blank)) (drop-of-length-le card {i = i} l)
         ∙ ap₂ (λ (b : ℕ) (x : List ℕ). b ∷ x) (sym (List·getD-eq-default card blank {n = i} l)) (ap (λ (x : List ℕ). take k (x ++ replicate m blank)) (sym (drop-of-length-le card {i = suc i} (omega arith))) ∙ f)
 
-columns-placed : (a b : ℕ) (card : List ℕ) → columns a b card ≡ placed (a - 1) (suc b - a) card
+pub columns-placed : (a b : ℕ) (card : List ℕ) → columns a b card ≡ placed (a - 1) (suc b - a) card
 unfolding columns
 columns-placed a b card = take-placed (suc b - a) (suc b - a) (a - 1) card (omega arith)
 

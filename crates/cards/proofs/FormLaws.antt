@@ -11,7 +11,7 @@ use lib.ListN.{length, getD}
 use Rattle.lists.specs.Lists.{Each}
 use Rattle.lists.proofs.Laws.{each-map, keep-append}
 use Rattle.decks.specs.declared.Answer.the-variants.{NoneOpen, TooManyCards}
-use Rattle.decks.specs.Answers.{Outcome, Got, Refused, refuse}
+use Rattle.decks.specs.Answers.{Got, Refused, refuse}
 use Rattle.decks.specs.Readings.{walk}
 use Rattle.cards.specs.Card.{blank, fieldEnd, cardColumns, continuations, columns, every, isBlank, isDigit, printable, Kind, Comment, Empty, Opening, Continuing, isComment, kindOf, numbered, Open, Shut, Continued, opened, cardInForm, inForm}
 use Rattle.cards.specs.Statement.{Statement, fieldOf, Hand, Nothing, Held, laid, folded, gathered, statementsOf}
@@ -34,7 +34,7 @@ apart-passed false false e f = let z : _≡_ {A = ℕ} 0 1 = cc in absurd (omega
 
 -- ---- one card
 
-numbered-margins : (card : List ℕ) → every isBlank (columns 1 5 card) ≡ true → numbered card ≡ true → Margins card
+pub numbered-margins : (card : List ℕ) → every isBlank (columns 1 5 card) ≡ true → numbered card ≡ true → Margins card
 numbered-margins card s e = record {
   start-blank = λ c l h. eqb-true (punched card c) blank (every-column isBlank 1 5 card (omega arith) s c l h);
   end-numbered =
@@ -62,7 +62,7 @@ card-given n card o =
       e,
     ))))))
 
-card-formed : (n : ℕ) (card : List ℕ) (o p : Open) → cardInForm n card o ≡ Got p → Formed card × (opened n (kindOf card) o ≡ Got p)
+pub card-formed : (n : ℕ) (card : List ℕ) (o p : Open) → cardInForm n card o ≡ Got p → Formed card × (opened n (kindOf card) o ≡ Got p)
 card-formed n card o p e = got-given (λ (q : Open). Formed card × (opened n (kindOf card) o ≡ Got q)) (cardInForm n card o) p (card-given n card o) e
 
 opened-comment : (n : ℕ) (o : Open) → opened n Comment o ≡ Got Shut

@@ -1,23 +1,22 @@
 -- Laws of the grammar: what is spelt is read back, only what is spelt is read, and one level more changes nothing but a depth.
 use mathlib.Core.Path.{_≡_, refl, sym, ap, ap₂, _∙_, subst}
-use mathlib.Core.Logic.{_⊎_, inl, inr, ⊎-elim, by-cases, _↔_}
-use mathlib.Core.Bool.{Bool, true, false, _&&_, _||_}
-use mathlib.Core.List.{List, [], _∷_, _++_, append-assoc, append-nil, head-eq-of-cons-eq, tail-eq-of-cons-eq}
+use mathlib.Core.Logic.{_⊎_, inl, inr, ⊎-elim, by-cases}
+use mathlib.Core.Bool.{Bool, true, false, _&&_}
+use mathlib.Core.List.{List, [], _∷_, _++_, append-assoc}
 use mathlib.Core.Option.{Option, none, some}
-use Prim.Native.Nat.{ℕ, zero, suc, _+_, _-_, _*_, _/_, _%_, _^_, _<_, _≤_, max}
+use Prim.Native.Nat.{ℕ, zero, suc, _+_, _-_, _*_, _/_, _%_, _<_, _≤_}
 use Prim.Native.Char.{code as character}
 use native.Mathlib.Omega.{arith}
 use native.Mathlib.Decide.{decLt, ℕ-discrete}
-use borrow.Author.Tests.{lt-ltb, le-ltb, le-leb, lt-leb, leb-true, leb-false, eq-eqb, ne-eqb, eqb-true, eqb-false}
+use borrow.Author.Tests.{le-leb, leb-true, eq-eqb, ne-eqb, eqb-true}
 use lib.Dec.{eqb, leb}
-use lib.ListN.{length}
 use Rattle.lists.specs.Lists.{chosen}
 use Rattle.logic.specs.Expressions.{Expr, Const, Var, One, Two, Op1, Op2, Not, Next, Future, Always, And, Or, Until, Weak, levels, constSign, sign1, sign2, decimal, spelling}
 use Rattle.logic.proofs.Codes.{Below, levels-some}
 use Rattle.logic.proofs.Spelling.{Digit, NoDigit, decimal-one, decimal-two}
 use Rattle.decks.specs.Readings.{Reading, Whole, Wrong, Deep, onward}
 use Rattle.cards.specs.Card.{isDigit}
-use Rattle.cards.specs.Grammar.{Counted, Number, NoNumber, digitValue, secondDigit, readNumber, Sign, Constant, Variable, Before, Bracket, NoSign, signOf, jointOf, past, pastJoint, variable, levelled, begins, beginning, tooDeep, readExpr}
+use Rattle.cards.specs.Grammar.{Counted, Number, NoNumber, digitValue, secondDigit, readNumber, Sign, Constant, Variable, Before, Bracket, NoSign, signOf, jointOf, past, pastJoint, variable, levelled, begins, readExpr}
 
 -- ---- digits
 

@@ -8,3 +8,4 @@ pub mod Cases
 pub mod FormLaws
 pub mod NothingDropped
 pub mod ExactlyWhen
+pub mod CardsExactlyWhen
