@@ -9,7 +9,7 @@ use lib.Count.{trailingZeros}
 use Rattle.lists.specs.Lists.{ended, unended, fronted, stands, joined, keep, firsts, others}
 use Rattle.lists.specs.Texts.{bytes}
 use Rattle.logic.specs.Expressions.{Expr, Const, Var, One, Two, Not, And, nodes, written, temporal, spelling}
-use Rattle.logic.specs.Decks.{Equation, Deck, totalNodes}
+use Rattle.logic.specs.Decks.{Equation, totalNodes}
 use Rattle.logic.proofs.Cases.{worked}
 use Rattle.decks.specs.declared.Answer.{Answer}
 use Rattle.decks.specs.declared.Reply.{Reply}

@@ -1,23 +1,22 @@
 -- Laws of the grammar: what is spelt is read back, only what is spelt is read, and one level more changes nothing but a depth.
 use mathlib.Core.Path.{_≡_, refl, sym, ap, ap₂, _∙_, subst}
-use mathlib.Core.Logic.{_⊎_, inl, inr, ⊎-elim, by-cases, _↔_}
-use mathlib.Core.Bool.{Bool, true, false, _&&_, _||_}
-use mathlib.Core.List.{List, [], _∷_, _++_, append-assoc, append-nil, head-eq-of-cons-eq, tail-eq-of-cons-eq}
+use mathlib.Core.Logic.{_⊎_, inl, inr, ⊎-elim, by-cases}
+use mathlib.Core.Bool.{Bool, true, false, _&&_}
+use mathlib.Core.List.{List, [], _∷_, _++_, append-assoc}
 use mathlib.Core.Option.{Option, none, some}
-use Prim.Native.Nat.{ℕ, zero, suc, _+_, _-_, _*_, _/_, _%_, _^_, _<_, _≤_, max}
+use Prim.Native.Nat.{ℕ, zero, suc, _+_, _-_, _*_, _/_, _%_, _<_, _≤_}
 use Prim.Native.Char.{code as character}
 use native.Mathlib.Omega.{arith}
 use native.Mathlib.Decide.{decLt, ℕ-discrete}
-use borrow.Author.Tests.{lt-ltb, le-ltb, le-leb, lt-leb, leb-true, leb-false, eq-eqb, ne-eqb, eqb-true, eqb-false}
+use borrow.Author.Tests.{le-leb, leb-true, eq-eqb, ne-eqb, eqb-true}
 use lib.Dec.{eqb, leb}
-use lib.ListN.{length}
 use Rattle.lists.specs.Lists.{chosen}
 use Rattle.logic.specs.Expressions.{Expr, Const, Var, One, Two, Op1, Op2, Not, Next, Future, Always, And, Or, Until, Weak, levels, constSign, sign1, sign2, decimal, spelling}
 use Rattle.logic.proofs.Codes.{Below, levels-some}
 use Rattle.logic.proofs.Spelling.{Digit, NoDigit, decimal-one, decimal-two}
 use Rattle.decks.specs.Readings.{Reading, Whole, Wrong, Deep, onward}
 use Rattle.cards.specs.Card.{isDigit}
-use Rattle.cards.specs.Grammar.{Counted, Number, NoNumber, digitValue, secondDigit, readNumber, Sign, Constant, Variable, Before, Bracket, NoSign, signOf, jointOf, past, pastJoint, variable, levelled, begins, beginning, tooDeep, readExpr}
+use Rattle.cards.specs.Grammar.{Counted, Number, NoNumber, digitValue, secondDigit, readNumber, Sign, Constant, Variable, Before, Bracket, NoSign, signOf, jointOf, past, pastJoint, variable, levelled, begins, readExpr}
 
 -- ---- digits
 
@@ -116,18 +115,18 @@ module _ {A : Type 0} (P : A → Type 0) where
   chosen-either false x y f p = p
 
 -- The character that begins what the sign says.
-abbrev Begins : ℕ → Sign → Type 0
+abbrev pub Begins : ℕ → Sign → Type 0
 Begins c (Constant b) = c ≡ constSign b
 Begins c Variable = c ≡ character "V"
 Begins c (Before o) = c ≡ sign1 o
 Begins c Bracket = c ≡ character "("
 Begins c NoSign = Unit
 
-abbrev Joins : ℕ → Option Op2 → Type 0
+abbrev pub Joins : ℕ → Option Op2 → Type 0
 Joins c (some o) = c ≡ sign2 o
 Joins c none = Unit
 
-sign-begins : (c : ℕ) → Begins c (signOf c)
+pub sign-begins : (c : ℕ) → Begins c (signOf c)
 unfolding signOf
 sign-begins c =
     chosen-either (Begins c) (eqb c 48) _ _ (eqb-true c 48)
@@ -138,7 +137,7 @@ sign-begins c =
     (chosen-either (Begins c) (eqb c 70) _ _ (eqb-true c 70)
     (chosen-either (Begins c) (eqb c 71) _ _ (eqb-true c 71) (chosen-either (Begins c) (eqb c 40) _ _ (eqb-true c 40) tt)))))))
 
-joint-joins : (c : ℕ) → Joins c (jointOf c)
+pub joint-joins : (c : ℕ) → Joins c (jointOf c)
 unfolding jointOf
 joint-joins c =
     chosen-either (Joins c) (eqb c 38) _ _ (eqb-true c 38)
@@ -149,7 +148,7 @@ unfolding signOf
 const-sign false = refl
 const-sign true = refl
 
-one-sign : (o : Op1) → signOf (sign1 o) ≡ Before o
+pub one-sign : (o : Op1) → signOf (sign1 o) ≡ Before o
 unfolding signOf
 one-sign Not = refl
 one-sign Next = refl
@@ -163,63 +162,17 @@ two-joint Or = refl
 two-joint Until = refl
 two-joint Weak = refl
 
-two-no-digit : (o : Op2) → Digit (sign2 o) → ⊥
+pub two-no-digit : (o : Op2) → Digit (sign2 o) → ⊥
 two-no-digit And d = omega arith
 two-no-digit Or d = omega arith
 two-no-digit Until d = omega arith
 two-no-digit Weak d = omega arith
 
--- ---- spelt, then read
-
--- A character is read as its sign.
-read-sign : (left c : ℕ) (s : Sign) (cs : List ℕ) → signOf c ≡ s → readExpr (suc left) (c ∷ cs) ≡ begins (readExpr left) (c ∷ cs) s cs
-unfolding readExpr
-read-sign left c s cs e = ap (λ (t : Sign). begins (readExpr left) (c ∷ cs) t cs) e
-
-variable-sign : signOf (character "V") ≡ Variable
-unfolding signOf
-variable-sign = refl
-
-bracket-sign : signOf (character "(") ≡ Bracket
-unfolding signOf
-bracket-sign = refl
-
-past-same : (c : ℕ) (xs : List ℕ) (f : List ℕ → Reading) → past c (c ∷ xs) f ≡ f xs
-unfolding past
-past-same c xs f = simp (eq-eqb c c refl, past)
-
-past-joint : (o : Op2) (xs : List ℕ) (f : Op2 → List ℕ → Reading) → pastJoint (sign2 o ∷ xs) f ≡ f o xs
-unfolding pastJoint
-past-joint o xs f = simp (two-joint o, pastJoint)
+-- ---- read, then spelt
 
 spelling-two : (o : Op2) (a b : Expr) (rest : List ℕ) → spelling (Two o a b) ++ rest ≡ character "(" ∷ (spelling a ++ (sign2 o ∷ (spelling b ++ (character ")" ∷ rest))))
 unfolding spelling
 spelling-two o a b rest = simp (append-assoc)
-
--- An expression that no digit follows is read back, with what stands behind it.
-pub spelling-read : (e : Expr) (left : ℕ) (rest : List ℕ) → levels e ≤ left → Below 100 e → NoDigit rest → readExpr left (spelling e ++ rest) ≡ Whole e rest
-unfolding levels spelling
-spelling-read e zero rest h n d = absurd (omega (arith, levels-some e))
-spelling-read (Const b) (suc left) rest h n d = read-sign left (constSign b) _ rest (const-sign b)
-spelling-read (Var v) (suc left) rest h n d = read-sign left (character "V") _ (decimal v ++ rest) variable-sign ∙ ap variable (decimal-read v rest n d)
-spelling-read (One o a) (suc left) rest h n d =
-    read-sign left (sign1 o) _ (spelling a ++ rest) (one-sign o)
-    ∙ ap (λ (r : Reading). onward r (λ b last. Whole (One o b) last)) (spelling-read a left rest (omega arith) n d)
-spelling-read (Two o a b) (suc left) rest h n d =
-    let last : List ℕ = character ")" ∷ rest in
-    let second : List ℕ = spelling b ++ last in
-    ap (readExpr (suc left)) (spelling-two o a b rest)
-    ∙ read-sign left (character "(") _ (spelling a ++ (sign2 o ∷ second)) bracket-sign
-    ∙ ap
-    (λ (r : Reading). onward r (λ x more. pastJoint more (λ p more. onward (readExpr left more) (λ y more. past (character ")") more (λ more. Whole (Two p x y) more)))))
-    (spelling-read a left (sign2 o ∷ second) (omega arith) (n .0) (two-no-digit o))
-    ∙ past-joint o second (λ p more. onward (readExpr left more) (λ y more. past (character ")") more (λ more. Whole (Two p a y) more)))
-    ∙ ap
-    (λ (r : Reading). onward r (λ y more. past (character ")") more (λ more. Whole (Two o a y) more)))
-    (spelling-read b left last (omega arith) (n .1) (λ q. omega arith))
-    ∙ past-same (character ")") rest (λ more. Whole (Two o a b) more)
-
--- ---- read, then spelt
 
 -- What a reading says of the characters that it was made from: a whole expression is spelt there.
 abbrev Says : ℕ → List ℕ → Reading → Type 0
@@ -290,6 +243,52 @@ read-says (suc left) (c ∷ cs) = begins-says left c cs (readExpr left) (read-sa
 -- What is read as an expression is that expression spelt, within the levels and with numbers of one or two digits.
 pub read-spelling : (left : ℕ) (cs : List ℕ) (e : Expr) (rest : List ℕ) → readExpr left cs ≡ Whole e rest → (cs ≡ spelling e ++ rest) × (levels e ≤ left) × Below 100 e
 read-spelling left cs e rest h = subst (Says left cs) h (read-says left cs)
+
+-- ---- spelt, then read
+
+-- A character is read as its sign.
+pub read-sign : (left c : ℕ) (s : Sign) (cs : List ℕ) → signOf c ≡ s → readExpr (suc left) (c ∷ cs) ≡ begins (readExpr left) (c ∷ cs) s cs
+unfolding readExpr
+read-sign left c s cs e = ap (λ (t : Sign). begins (readExpr left) (c ∷ cs) t cs) e
+
+variable-sign : signOf (character "V") ≡ Variable
+unfolding signOf
+variable-sign = refl
+
+pub bracket-sign : signOf (character "(") ≡ Bracket
+unfolding signOf
+bracket-sign = refl
+
+past-same : (c : ℕ) (xs : List ℕ) (f : List ℕ → Reading) → past c (c ∷ xs) f ≡ f xs
+unfolding past
+past-same c xs f = simp (eq-eqb c c refl, past)
+
+pub past-joint : (o : Op2) (xs : List ℕ) (f : Op2 → List ℕ → Reading) → pastJoint (sign2 o ∷ xs) f ≡ f o xs
+unfolding pastJoint
+past-joint o xs f = simp (two-joint o, pastJoint)
+
+-- An expression that no digit follows is read back, with what stands behind it.
+pub spelling-read : (e : Expr) (left : ℕ) (rest : List ℕ) → levels e ≤ left → Below 100 e → NoDigit rest → readExpr left (spelling e ++ rest) ≡ Whole e rest
+unfolding levels spelling
+spelling-read e zero rest h n d = absurd (omega (arith, levels-some e))
+spelling-read (Const b) (suc left) rest h n d = read-sign left (constSign b) _ rest (const-sign b)
+spelling-read (Var v) (suc left) rest h n d = read-sign left (character "V") _ (decimal v ++ rest) variable-sign ∙ ap variable (decimal-read v rest n d)
+spelling-read (One o a) (suc left) rest h n d =
+    read-sign left (sign1 o) _ (spelling a ++ rest) (one-sign o)
+    ∙ ap (λ (r : Reading). onward r (λ b last. Whole (One o b) last)) (spelling-read a left rest (omega arith) n d)
+spelling-read (Two o a b) (suc left) rest h n d =
+    let last : List ℕ = character ")" ∷ rest in
+    let second : List ℕ = spelling b ++ last in
+    ap (readExpr (suc left)) (spelling-two o a b rest)
+    ∙ read-sign left (character "(") _ (spelling a ++ (sign2 o ∷ second)) bracket-sign
+    ∙ ap
+    (λ (r : Reading). onward r (λ x more. pastJoint more (λ p more. onward (readExpr left more) (λ y more. past (character ")") more (λ more. Whole (Two p x y) more)))))
+    (spelling-read a left (sign2 o ∷ second) (omega arith) (n .0) (two-no-digit o))
+    ∙ past-joint o second (λ p more. onward (readExpr left more) (λ y more. past (character ")") more (λ more. Whole (Two p a y) more)))
+    ∙ ap
+    (λ (r : Reading). onward r (λ y more. past (character ")") more (λ more. Whole (Two o a y) more)))
+    (spelling-read b left last (omega arith) (n .1) (λ q. omega arith))
+    ∙ past-same (character ")") rest (λ more. Whole (Two o a b) more)
 
 -- ---- one level more
 

@@ -4,5 +4,8 @@ pub mod WordLaws
 pub mod TypedLaws
 pub mod StatementLaws
 pub mod ColumnLaws
-pub mod NothingDropped
 pub mod Cases
+pub mod FormLaws
+pub mod NothingDropped
+pub mod ExactlyWhen
+pub mod CardsExactlyWhen

@@ -1,8 +1,7 @@
 -- Nothing dropped: a text of cards is accepted exactly where its characters are the spelling of what was typed, and the deck is what was typed.
 use mathlib.Core.Path.{_≡_, refl, sym, ap, _∙_, subst}
 use mathlib.Core.Logic.{_↔_}
-use mathlib.Core.Bool.{Bool, true, false}
-use mathlib.Core.List.{List, [], _∷_, _++_, map}
+use mathlib.Core.List.{List, map}
 use Prim.Native.Nat.{ℕ, _<_, _≤_}
 use native.Mathlib.Omega.{arith}
 use borrow.Author.Tests.{le-ltb, ltb-false}
@@ -11,7 +10,7 @@ use lib.ListN.{length}
 use Rattle.lists.specs.Lists.{Each, Some, keep}
 use Rattle.logic.specs.Decks.{Equation, Deck, Accepted, base}
 use Rattle.decks.specs.declared.Answer.the-variants.{NotDue}
-use Rattle.decks.specs.Answers.{Outcome, Got, Refused, refuse, afterwards}
+use Rattle.decks.specs.Answers.{Got, Refused}
 use Rattle.decks.specs.Readings.{walk, complete}
 use Rattle.cards.specs.Card.{cardsOf, Open, Shut, inForm}
 use Rattle.cards.specs.Statement.{Statement, inked, statementsOf}
@@ -21,7 +20,8 @@ use Rattle.cards.specs.Columns.{CardsAre, deckText, together, Formed}
 use Rattle.cards.proofs.Outcomes.{Given, got-given, given-got, refuse-given, afterwards-given, got-eq, complete-all, all-complete}
 use Rattle.cards.proofs.TypedLaws.{ofVariable, rising-own, typed-all-have, all-have-typed, fits-accepted}
 use Rattle.cards.proofs.StatementLaws.{textOf, sofar, Stated, walk-spelt, spelt-walk}
-use Rattle.cards.proofs.ColumnLaws.{cards-formed, statements-columns, cards-are}
+use Rattle.cards.proofs.ColumnLaws.{cards-are}
+use Rattle.cards.proofs.FormLaws.{cards-formed, statements-columns}
 
 -- The statements of the text, without their blanks, are the spelling of t; t keeps the limits and is complete; d is the deck that t gives.
 abbrev pub Says : List ℕ → Deck → Type 0

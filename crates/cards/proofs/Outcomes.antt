@@ -1,15 +1,14 @@
 -- Laws of outcomes, of the walk over a list, and of the test of 15.
-use mathlib.Core.Path.{_≡_, refl, sym, ap, _∙_, subst}
+use mathlib.Core.Path.{_≡_, refl, sym, _∙_, subst}
 use mathlib.Core.Logic.{_⊎_, inl, inr, ⊎-elim, by-cases}
 use mathlib.Core.Bool.{Bool, true, false, not}
 use mathlib.Core.List.{List, [], _∷_, _++_, append-assoc, append-nil}
-use Prim.Native.Nat.{ℕ, suc, _+_, _<_, _≤_}
+use Prim.Native.Nat.{ℕ, suc, _+_}
 use native.Mathlib.Omega.{arith}
 use native.Mathlib.Decide.{ℕ-discrete}
 use borrow.Author.Tests.{eq-eqb, ne-eqb, not-false}
-use lib.Dec.{eqb}
 use Rattle.lists.specs.Lists.{Some}
-use Rattle.sets.specs.Sets.{_∋_, union, only, without, lowestOf}
+use Rattle.sets.specs.Sets.{_∋_, only, without, lowestOf}
 use Rattle.sets.proofs.Laws.{bit-zero, bit-only, only-bit, union-left, union-right, union-cases, subset-without, without-subset}
 use Rattle.logic.specs.Decks.{Equation, Deck}
 use Rattle.decks.specs.declared.Answer.{Answer}

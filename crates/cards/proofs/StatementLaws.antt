@@ -1,7 +1,7 @@
 -- Laws of the walk over statements: it comes to a result exactly where the statements are the spelling of what was typed, within the limits.
 use mathlib.Core.Path.{_≡_, refl, sym, ap, ap₂, _∙_, subst}
-use mathlib.Core.Logic.{_⊎_, inl, inr, ⊎-elim}
-use mathlib.Core.Bool.{Bool, true, false, not}
+use mathlib.Core.Logic.{_⊎_, inl, inr}
+use mathlib.Core.Bool.{false, not}
 use mathlib.Core.List.{List, [], _∷_, _++_, map, map-append, append-assoc, append-nil, nil≢cons, head-eq-of-cons-eq, tail-eq-of-cons-eq}
 use mathlib.Core.Option.{Option, none, some}
 use Prim.Native.Nat.{ℕ, suc, _+_, _^_, _<_, _≤_}
@@ -12,7 +12,7 @@ use lib.ListN.{length, length-append}
 use Rattle.lists.specs.Lists.{Each, _among_}
 use Rattle.lists.specs.Texts.{bytes}
 use Rattle.lists.proofs.Laws.{each-at, each-append, among-right}
-use Rattle.sets.specs.Sets.{_∋_, _⊆_, has, inside}
+use Rattle.sets.specs.Sets.{_⊆_, has, inside}
 use Rattle.sets.proofs.Laws.{has-true, true-has, inside-true, true-inside}
 use Rattle.logic.specs.Expressions.{Expr, Const, nodes, levels, written, temporal, decimal, spelling}
 use Rattle.logic.specs.Decks.{Equation, Allowed, base, totalNodes}

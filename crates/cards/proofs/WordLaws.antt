@@ -1,11 +1,10 @@
 -- Laws of the parts of a statement: its word, its number, its binary digits, its expression.
 use mathlib.Core.Path.{_≡_, refl, sym, ap, ap₂, _∙_, subst}
-use mathlib.Core.Logic.{_⊎_, inl, inr, ⊎-elim, by-cases, _↔_}
+use mathlib.Core.Logic.{_⊎_, inl, inr, ⊎-elim, _↔_}
 use mathlib.Core.Bool.{Bool, true, false, _||_}
-use mathlib.Core.List.{List, [], _∷_, _++_, append-nil, head-eq-of-cons-eq, tail-eq-of-cons-eq}
+use mathlib.Core.List.{List, [], _∷_, _++_, append-nil}
 use mathlib.Core.Option.{Option, none, some}
-use Prim.Native.Nat.{ℕ, zero, suc, _+_, _-_, _*_, _/_, _%_, _^_, _<_, _≤_}
-use Prim.Native.Char.{code as character}
+use Prim.Native.Nat.{ℕ, zero, suc, _+_, _-_, _*_, _%_, _^_, _<_, _≤_}
 use native.Mathlib.Omega.{arith}
 use native.Mathlib.Nat.{add-comm, mod-lt, mod-eq-of-lt, mod-one}
 use borrow.Author.Tests.{le-ltb, ltb-false, eq-eqb, ne-eqb, eqb-true}
@@ -17,7 +16,7 @@ use Rattle.logic.specs.Expressions.{Expr, levels, decimal, spelling}
 use Rattle.logic.specs.Decks.{base}
 use Rattle.logic.proofs.Codes.{Below}
 use Rattle.decks.specs.declared.Answer.the-variants.{NotDue}
-use Rattle.decks.specs.Answers.{Outcome, Got, Refused, refuse}
+use Rattle.decks.specs.Answers.{Outcome, Got, refuse}
 use Rattle.decks.specs.Readings.{Reading, Whole, Wrong, Deep}
 use Rattle.cards.specs.Grammar.{Counted, Number, NoNumber, digitValue, readNumber, readExpr}
 use Rattle.cards.specs.Typed.{binaryFrom}
