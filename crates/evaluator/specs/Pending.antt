@@ -5,6 +5,7 @@ use Prim.Native.Nat.{ℕ, zero, suc, _+_, _*_, _-_, _/_, _%_, _^_, _<_, _≤_, m
 use mathlib.Core.Bool.{true, false}
 use lib.Dec.{ltb}
 use lib.ListN.{length, getD}
+use Rattle.sets.specs.Sets.{bit}
 
 -- The value worked out last, and the one before it.
 abbrev pub top : ℕ → ℕ
@@ -59,13 +60,18 @@ tops ws j = top (getD ws j 0)
 unfoldable pub following : ℕ → ℕ → ℕ → ℕ
 following n p i = elim (ltb (suc i) n) [ true ↦ suc i | false ↦ p ]
 
--- What each operator makes of the word w at state i, the words being ws: `X`, and `U` (z = 0) or `W` (z = 1) of the two topmost values.
-abbrev pub nextWord : ℕ → List ℕ → ℕ → ℕ → ℕ
+-- What becomes of the word w at state i: the variable's value is pushed.
+unfoldable pub variableWord : List ℕ → ℕ → ℕ → ℕ → ℕ
+variableWord states v i w = pushed w (bit (getD states i 0) v)
+
+-- What `X` makes of the word w at state i, the words being ws.
+unfoldable pub nextWord : ℕ → List ℕ → ℕ → ℕ → ℕ
 nextWord p ws i w = topped w (tops ws (following (length ws) p i))
 
 -- The value at state p, worked out once round.
 abbrev pub settled : ℕ → ℕ → List ℕ → ℕ
 settled p z ws = sweep (seconds ws) (tops ws) z (length ws - p) p
 
-abbrev pub sweptWord : ℕ → List ℕ → ℕ → ℕ → ℕ
+-- What `U` (v settled from 0) or `W` (from 1) makes of the word w at state i, the words being ws.
+unfoldable pub sweptWord : ℕ → List ℕ → ℕ → ℕ → ℕ
 sweptWord v ws i w = joined w (sweep (seconds ws) (tops ws) v (length ws - i) i)

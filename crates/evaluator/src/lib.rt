@@ -4,17 +4,18 @@ ghost use mathlib.Core.Path.{_≡_};
 ghost use Prim.Native.Nat.{ℕ, _+_, _*_, _-_, _/_, _%_, _^_, _<_, _≤_, min, max};
 ghost use lib.ListN.{length, getD, set};
 ghost use Rattle.sets.specs.Sets.{bit};
-ghost use Rattle.evaluator.specs.Pending.{top, second, pushed, topped, joined, All, Below, sweep, seconds, tops, nextWord, settled, sweptWord};
+ghost use Rattle.evaluator.specs.Pending.{top, second, pushed, topped, joined, All, Below, sweep, seconds, tops, variableWord, nextWord, settled, sweptWord};
 
 // The word at place i.
-fn word_at(words: &[u64], i: usize) -> u64
+pub fn word_at(words: &[u64], i: usize) -> u64
     requires { ⌜ i < length (now words) ⌝ }
     ensures { λ r. ⌜ r ≡ getD (now (words .entry)) i 0 ⌝ }
 {
     words[i]
 }
 
-fn put_word(words: &mut [u64], i: usize, w: u64)
+// A word stored at place i.
+pub fn put_word(words: &mut [u64], i: usize, w: u64)
     requires { ⌜ i < length (now words) ⌝ }
     ensures { λ _. ⌜ now (words .exit) ≡ set (now (words .entry)) i w ⌝ }
 {
@@ -41,27 +42,32 @@ pub fn push(words: &mut [u64], x: u64)
     }
 }
 
-// The value of the variable at every state.
-pub fn push_variable(words: &mut [u64], states: &[u64], v: usize)
-    requires { ⌜ Below 63 (now words) × (length (now words) ≡ length (now states)) ⌝ }
-    ensures { λ _. ⌜ All (λ i w. pushed w (bit (getD (now (states .entry)) i 0) v)) (now (words .entry)) (now (words .exit)) ⌝ }
+// The value of the variable in state i.
+pub fn value_at(states: &[u64], i: usize, v: usize) -> u64
+    requires { ⌜ i < length (now states) ⌝ }
+    ensures { λ r. ⌜ (r ≡ bit (getD (now (states .entry)) i 0) v) × (r < 2) ⌝ }
 {
-    let mut i = 0;
-    while i < words.len() {
-        let s = decks::state_at(states, i);
-        put_word(words, i, push_value(word_at(words, i), value_in(s, v)));
-        i += 1;
-    }
-}
-
-// The value of the variable in the state.
-fn value_in(s: u64, v: usize) -> u64
-    ensures { λ r. ⌜ r ≡ bit s v ⌝ }
-{
+    let s = decks::state_at(states, i);
     if sets::member(s, v) {
         return 1;
     }
     0
+}
+
+// The value of the variable at every state.
+pub fn push_variable(words: &mut [u64], states: &[u64], v: usize)
+    requires { ⌜ Below 63 (now words) × (length (now words) ≡ length (now states)) ⌝ }
+    ensures { λ _. ⌜ All (variableWord (now (states .entry)) v) (now (words .entry)) (now (words .exit)) ⌝ }
+{
+    let mut i = 0;
+    while i < words.len() {
+        put_word(
+            words,
+            i,
+            push_value(word_at(words, i), value_at(states, i, v)),
+        );
+        i += 1;
+    }
 }
 
 // The word with the other value on top.
@@ -145,4 +151,105 @@ pub fn lift(words: &mut [u64])
         put_word(words, i, over_one(word_at(words, i)));
         i += 1;
     }
+}
+
+// The word with the top of the other word on top.
+fn with_top(w: u64, other: u64) -> u64
+    ensures { λ r. ⌜ r ≡ topped w (top other) ⌝ }
+{
+    2 * (w / 2) + other % 2
+}
+
+// The top of the other word on top of word i.
+fn put_top(words: &mut [u64], i: usize, other: u64)
+    requires { ⌜ i < length (now words) ⌝ }
+    ensures { λ _. ⌜ now (words .exit) ≡ set (now (words .entry)) i (topped (getD (now (words .entry)) i 0) (top other)) ⌝ }
+{
+    put_word(words, i, with_top(word_at(words, i), other));
+}
+
+// `X` at every state: the last one is followed by state p.
+pub fn next(words: &mut [u64], p: usize)
+    requires { ⌜ p < length (now words) ⌝ }
+    ensures { λ _. ⌜ All (nextWord p (now (words .entry))) (now (words .entry)) (now (words .exit)) ⌝ }
+{
+    let home = p;
+    let back = word_at(words, home);
+    let mut i = 0;
+    while i + 1 < words.len() {
+        put_top(words, i, word_at(words, i + 1));
+        i += 1;
+    }
+    put_top(words, i, back);
+}
+
+// The topmost value, or the one below it and v.
+fn carried(w: u64, v: u64) -> u64
+    requires { ⌜ v < 2 ⌝ }
+    ensures { λ r. ⌜ (r ≡ max (top w) (min (second w) v)) × (r < 2) ⌝ }
+{
+    if w % 2 == 1 {
+        return 1;
+    }
+    if w / 2 % 2 == 1 {
+        return v;
+    }
+    0
+}
+
+// The word with x for its two topmost values.
+fn join(w: u64, x: u64) -> u64
+    requires { ⌜ x < 2 ⌝ }
+    ensures { λ r. ⌜ r ≡ joined w x ⌝ }
+{
+    2 * (w / 4) + x
+}
+
+// The value at state p, once round from the last state back, z behind it.
+fn settle(words: &[u64], p: usize, z: u64) -> u64
+    requires { ⌜ (p < length (now words)) × (z < 2) ⌝ }
+    ensures { λ r. ⌜ (r ≡ settled p z (now (words .entry))) × (r < 2) ⌝ }
+{
+    let mut v = z;
+    let mut i = words.len();
+    while i != p {
+        i -= 1;
+        v = carried(word_at(words, i), v);
+    }
+    v
+}
+
+// The value at every state from the last one back, start behind it, for the two topmost.
+fn sweep(words: &mut [u64], start: u64)
+    requires { ⌜ start < 2 ⌝ }
+    ensures { λ _. ⌜ All (sweptWord start (now (words .entry))) (now (words .entry)) (now (words .exit)) ⌝ }
+{
+    let mut v = start;
+    let mut i = words.len();
+    while i != 0 {
+        i -= 1;
+        let w = word_at(words, i);
+        v = carried(w, v);
+        put_word(words, i, join(w, v));
+    }
+}
+
+// `U` at every state: nothing has come behind the last.
+pub fn until(words: &mut [u64], p: usize)
+    requires { ⌜ p < length (now words) ⌝ }
+    ensures { λ _. ⌜ All (sweptWord (settled p 0 (now (words .entry))) (now (words .entry))) (now (words .entry)) (now (words .exit)) ⌝ }
+{
+    let never = 0;
+    let v = settle(words, p, never);
+    sweep(words, v);
+}
+
+// `W` at every state: the loop may go on for ever.
+pub fn weak(words: &mut [u64], p: usize)
+    requires { ⌜ p < length (now words) ⌝ }
+    ensures { λ _. ⌜ All (sweptWord (settled p 1 (now (words .entry))) (now (words .entry))) (now (words .entry)) (now (words .exit)) ⌝ }
+{
+    let ever = 1;
+    let v = settle(words, p, ever);
+    sweep(words, v);
 }
