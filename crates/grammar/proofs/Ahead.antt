@@ -1,19 +1,19 @@
 -- What stands ahead of a reader: at the end, at a blank, and at a character that is none.
 use mathlib.Core.Path.{_≡_, refl, sym, ap, _∙_}
-use mathlib.Core.Bool.{Bool, true, false, not}
+use mathlib.Core.Bool.{not}
 use mathlib.Core.List.{List, [], _∷_, nil≢cons}
-use Prim.Native.Nat.{ℕ, suc, _+_, _-_, _<_, _≤_, min}
+use Prim.Native.Nat.{ℕ, suc, _+_, _-_, _<_, _≤_}
 use native.Mathlib.Omega.{arith}
 use native.Mathlib.Numerals.{add-one}
 use borrow.Author.Tests.{eq-eqb, ne-eqb}
 use lib.ListN.{length, take, drop, getD}
 use lib.Seq.{drop-cons}
 use Rattle.lists.specs.Lists.{keep}
-use Rattle.lists.proofs.Laws.{keep-pass, keep-fail, length-keep}
-use Rattle.cards.specs.Card.{isBlank, blank}
+use Rattle.lists.proofs.Laws.{keep-pass, keep-fail}
+use Rattle.cards.specs.Card.{isBlank}
 use Rattle.cards.specs.Statement.{inked}
 use Rattle.grammar.specs.declared.Ink.{Ink}
-use Rattle.grammar.specs.Ahead.{ahead, Settled, Skips, Inks}
+use Rattle.grammar.specs.Ahead.{ahead, Skips, Inks}
 
 module _ (chars : List ℕ) (i end : ℕ) where
   pub ahead-end : end ≤ i → ahead chars i end ≡ []

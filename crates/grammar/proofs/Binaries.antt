@@ -1,19 +1,18 @@
 -- Binary digits: one more, a character that is none, one too many, and the end.
 use mathlib.Core.Path.{_≡_, refl, sym, ap, ap₂, _∙_}
-use mathlib.Core.Bool.{Bool, true, false, not, _||_}
+use mathlib.Core.Bool.{Bool, true, false, not}
 use mathlib.Core.List.{List, [], _∷_}
-use mathlib.Core.Option.{Option, none, some}
-use Prim.Native.Nat.{ℕ, suc, _+_, _-_, _*_, _^_, _<_, _≤_, min}
+use mathlib.Core.Option.{none, some}
+use Prim.Native.Nat.{ℕ, suc, _+_, _-_, _*_, _^_, _<_, _≤_}
 use native.Mathlib.Omega.{arith}
 use native.Mathlib.Nat.{sub-zero}
 use native.Mathlib.Numerals.{add-one}
-use borrow.Author.Tests.{not-true, not-false, eqb-true, eqb-false}
+use borrow.Author.Tests.{not-true, not-false, eqb-true}
 use lib.Dec.{eqb}
-use lib.ListN.{length, drop, getD}
+use lib.ListN.{length, getD}
 use Rattle.cards.specs.Grammar.{digitValue}
 use Rattle.cards.specs.Read.{readBinary}
 use Rattle.grammar.specs.declared.Ink.{Ink}
-use Rattle.grammar.specs.declared.Binary.{Binary}
 use Rattle.grammar.specs.Ahead.{ahead, Skips, Inks}
 use Rattle.grammar.specs.Readers.{binaryDigit, Binaries}
 use Rattle.grammar.proofs.Ahead.{ahead-end, ahead-ink, ink-cons}

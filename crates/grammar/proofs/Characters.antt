@@ -1,5 +1,5 @@
 -- The tests of a character, and the value of a digit.
-use mathlib.Core.Path.{_≡_, refl, sym, ap, _∙_}
+use mathlib.Core.Path.{_≡_, refl, sym, ap}
 use mathlib.Core.Bool.{Bool, true, false, _&&_, _||_}
 use Prim.Native.Nat.{ℕ, suc, _+_, _-_, _*_, _%_, _^_, _<_, _≤_}
 use native.Mathlib.Omega.{arith}
@@ -9,7 +9,6 @@ use borrow.Author.Tests.{lt-leb, le-leb, eq-eqb, ne-eqb}
 use lib.Dec.{leb, eqb, lit<}
 use lib.Pow.{shl-exact, pow-mono}
 use Rattle.cards.specs.Card.{isDigit}
-use Rattle.cards.specs.Grammar.{digitValue}
 use Rattle.grammar.specs.Readers.{binaryDigit}
 
 module _ (c : ℕ) where

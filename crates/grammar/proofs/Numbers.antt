@@ -2,15 +2,14 @@
 use mathlib.Core.Path.{_≡_, refl, sym, ap, ap₂, _∙_}
 use mathlib.Core.Bool.{Bool, true, false, not, _&&_, true≢false}
 use mathlib.Core.List.{List, [], _∷_}
-use Prim.Native.Nat.{ℕ, _+_, _-_, _*_, _<_, _≤_, min}
+use Prim.Native.Nat.{ℕ, _+_, _-_, _*_, _≤_, min}
 use native.Mathlib.Omega.{arith}
-use borrow.Author.Tests.{not-true, not-false, eq-eqb, ne-eqb, leb-true, le-leb, lt-leb}
-use lib.Dec.{leb, eqb}
-use lib.ListN.{length, drop, getD}
+use borrow.Author.Tests.{not-true, not-false, eq-eqb, ne-eqb, leb-true}
+use lib.Dec.{leb}
+use lib.ListN.{drop, getD}
 use Rattle.cards.specs.Card.{isDigit}
-use Rattle.cards.specs.Grammar.{Counted, Number, NoNumber, digitValue, secondDigit, readNumber}
+use Rattle.cards.specs.Grammar.{Number, NoNumber, digitValue, secondDigit, readNumber}
 use Rattle.grammar.specs.declared.Ink.{Ink}
-use Rattle.grammar.specs.declared.Digits.{Digits}
 use Rattle.grammar.specs.Ahead.{ahead, Inks}
 use Rattle.grammar.specs.Readers.{Numbers}
 

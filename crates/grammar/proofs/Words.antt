@@ -1,9 +1,9 @@
 -- Words: the characters ahead against the word, one by one.
 use mathlib.Core.Path.{_≡_, refl, sym, ap, ap₂, _∙_}
-use mathlib.Core.Bool.{Bool, true, false, true≢false}
+use mathlib.Core.Bool.{true, false, true≢false}
 use mathlib.Core.List.{List, [], _∷_}
-use mathlib.Core.Option.{Option, none, some}
-use Prim.Native.Nat.{ℕ, suc, _+_, _-_, _<_, _≤_, min}
+use mathlib.Core.Option.{none, some}
+use Prim.Native.Nat.{ℕ, _+_, _-_, _<_, _≤_}
 use native.Mathlib.Omega.{arith}
 use native.Mathlib.Numerals.{add-one}
 use borrow.Author.Tests.{eq-eqb, ne-eqb}
@@ -11,7 +11,6 @@ use lib.ListN.{length, drop, getD, drop-of-length-le}
 use lib.Seq.{drop-cons}
 use Rattle.cards.specs.Read.{behind}
 use Rattle.grammar.specs.declared.Ink.{Ink}
-use Rattle.grammar.specs.declared.Word.{Word}
 use Rattle.grammar.specs.Ahead.{ahead, Inks}
 use Rattle.grammar.specs.Readers.{Words}
 use Rattle.grammar.proofs.Ahead.{ahead-end, ink-cons}

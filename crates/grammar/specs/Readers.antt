@@ -1,13 +1,13 @@
 -- What the readers of numbers, words and binary digits promise: the card form's own reading of the characters ahead.
 use mathlib.Core.Path.{_≡_}
-use mathlib.Core.Bool.{Bool, true, false, _||_}
+use mathlib.Core.Bool.{Bool, false, _||_}
 use mathlib.Core.List.{List}
-use mathlib.Core.Option.{Option, none, some}
+use mathlib.Core.Option.{none, some}
 use Prim.Native.Nat.{ℕ, _<_, _≤_}
 use Prim.Native.Char.{code as character}
 use lib.Dec.{eqb}
 use Rattle.lists.specs.Lists.{chosen}
-use Rattle.cards.specs.Grammar.{Counted, Number, NoNumber, readNumber}
+use Rattle.cards.specs.Grammar.{Number, NoNumber, readNumber}
 use Rattle.cards.specs.Read.{behind, readBinary}
 use Rattle.grammar.specs.declared.Digits.{Digits}
 use Rattle.grammar.specs.declared.Word.{Word}

@@ -1,7 +1,7 @@
 // Readers over the characters of a statement: numbers, words and binary digits. Blanks mean nothing.
 // The first `end` of the characters are the fields of the statement's cards, one after the other.
 ghost use mathlib.Core.Path.{_≡_};
-ghost use Prim.Native.Nat.{ℕ, _+_, _-_, _*_, _^_, _<_, _≤_};
+ghost use Prim.Native.Nat.{_+_, _-_, _*_, _^_, _<_, _≤_};
 ghost use lib.ListN.{length};
 ghost use Rattle.cards.specs.Card.{isDigit};
 ghost use Rattle.cards.specs.Grammar.{digitValue};

@@ -1,12 +1,12 @@
 -- general: the array of nodes below a place, and with an operator stored before its operands.
-use mathlib.Core.Path.{_≡_, refl, sym, ap, ap₂, _∙_}
-use mathlib.Core.List.{List, [], _∷_, _++_}
-use Prim.Native.Nat.{ℕ, suc, _+_, _<_, _≤_}
+use mathlib.Core.Path.{_≡_, sym, ap, ap₂, _∙_}
+use mathlib.Core.List.{List, _∷_, _++_}
+use Prim.Native.Nat.{ℕ, suc, _+_, _≤_}
 use native.Mathlib.Omega.{arith}
 use lib.ListN.{length, take, drop, set}
 use lib.Seq.{take-take, take-append-le, drop-at, length-take-le}
 use Rattle.lists.specs.Lists.{splice}
-use Rattle.lists.proofs.Laws.{set-splice, splice-splice, length-splice}
+use Rattle.lists.proofs.Laws.{set-splice, length-splice}
 
 pub take-less : (m n : ℕ) (xs ys : List ℕ) → m ≤ n → take n xs ≡ take n ys → take m xs ≡ take m ys
 take-less m n xs ys h e = sym (take-take m n xs h) ∙ ap (take m) e ∙ take-take m n ys h

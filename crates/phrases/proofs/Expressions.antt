@@ -1,16 +1,16 @@
 -- What the reader of an expression answers: no sign, no level left, a variable, a constant, an operator.
 use mathlib.Core.Path.{_≡_, refl, sym, ap, ap₂, _∙_, subst}
-use mathlib.Core.Bool.{Bool, true, false, true≢false}
+use mathlib.Core.Bool.{Bool, true, false}
 use mathlib.Core.List.{List, [], _∷_}
-use Prim.Native.Nat.{ℕ, suc, _+_, _-_, _/_, _%_, _<_, _≤_, min}
+use Prim.Native.Nat.{ℕ, suc, _+_, _-_, _/_, _%_, _<_, _≤_}
 use native.Mathlib.Omega.{arith}
 use lib.ListN.{length, take, set, length-set}
 use lib.Seq.{take-set-le}
 use Rattle.lists.specs.Lists.{chosen, splice}
 use Rattle.lists.proofs.Laws.{set-splice}
-use Rattle.logic.specs.Expressions.{Expr, Const, Var, nodes, code, constNode}
-use Rattle.decks.specs.Readings.{Reading, Whole, Wrong, Deep}
-use Rattle.cards.specs.Grammar.{Sign, Constant, Variable, Bracket, NoSign, Counted, Number, NoNumber, readNumber, signOf, variable, readExpr}
+use Rattle.logic.specs.Expressions.{nodes, code, constNode}
+use Rattle.decks.specs.Readings.{Reading}
+use Rattle.cards.specs.Grammar.{Constant, Variable, Bracket, Number, NoNumber, readNumber, signOf, variable, readExpr}
 use Rattle.grammar.specs.declared.Ink.{Ink}
 use Rattle.grammar.specs.declared.Digits.{Digits}
 use Rattle.grammar.specs.Ahead.{ahead, Inks}

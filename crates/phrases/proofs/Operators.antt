@@ -1,9 +1,9 @@
 -- What the reader of operands answers: a fault in an operand, one operand, no operator between two, no bracket behind them, two operands.
 use mathlib.Core.Path.{_≡_, refl, sym, ap, ap₂, _∙_, subst}
 use mathlib.Core.Logic.{_⊎_, inl, inr, ⊎-elim, by-cases}
-use mathlib.Core.List.{List, [], _∷_, _++_}
-use mathlib.Core.Option.{Option, none, some}
-use Prim.Native.Nat.{ℕ, suc, _+_, _-_, _/_, _%_, _<_, _≤_, min}
+use mathlib.Core.List.{List, _∷_}
+use mathlib.Core.Option.{none}
+use Prim.Native.Nat.{ℕ, suc, _+_, _-_, _/_, _%_, _<_, _≤_}
 use native.Mathlib.Omega.{arith}
 use native.Mathlib.Decide.{ℕ-discrete}
 use lib.ListN.{length, take, set, length-set}
@@ -13,13 +13,13 @@ use Rattle.lists.proofs.Laws.{splice-splice}
 use Rattle.logic.specs.Expressions.{Expr, Op1, Op2, One, Two, nodes, code, node1, node2}
 use Rattle.logic.proofs.Codes.{length-code}
 use Rattle.decks.specs.Readings.{Reading, Whole, Wrong, Deep, onward}
-use Rattle.cards.specs.Grammar.{Sign, Constant, Variable, Before, Bracket, NoSign, signOf, jointOf, past, pastJoint, begins, readExpr}
+use Rattle.cards.specs.Grammar.{Sign, Before, Bracket, signOf, jointOf, past, pastJoint, begins, readExpr}
 use Rattle.grammar.specs.declared.Ink.{Ink}
-use Rattle.grammar.specs.Ahead.{ahead, Settled, Inks}
+use Rattle.grammar.specs.Ahead.{ahead, Inks}
 use Rattle.grammar.proofs.Ahead.{ink-cons}
 use Rattle.phrases.specs.declared.Phrase.{Phrase}
 use Rattle.phrases.specs.Phrases.{markOf, jointMark, Tells, Reads, Joins, Closes}
-use Rattle.phrases.proofs.Signs.{const-mark, mark-before, mark-bracket, mark-no-joint, mark-joint, joint-there, expr-sign, past-none, past-one, past-no-joint, past-joint}
+use Rattle.phrases.proofs.Signs.{mark-before, mark-no-joint, mark-joint, joint-there, expr-sign, past-none, past-one, past-no-joint, past-joint}
 use Rattle.phrases.proofs.Arrays.{take-less, set-before-splice}
 use Rattle.phrases.proofs.Expressions.{tells-same}
 

@@ -1,13 +1,13 @@
 -- What the card form's reading of an expression keeps: its result under one level more, and the bounds of what it gives.
-use mathlib.Core.Path.{_≡_, refl, sym, ap, _∙_, subst}
+use mathlib.Core.Path.{_≡_, refl, sym, ap, subst}
 use mathlib.Core.Bool.{Bool, true, false}
 use mathlib.Core.List.{List, [], _∷_}
 use mathlib.Core.Option.{Option, none, some}
-use Prim.Native.Nat.{ℕ, zero, suc, _+_, _-_, _*_, _<_, _≤_, max}
+use Prim.Native.Nat.{ℕ, zero, suc, _+_, _-_, _*_, _<_, _≤_}
 use native.Mathlib.Omega.{arith}
 use lib.Dec.{eqb}
 use lib.ListN.{length}
-use Rattle.logic.specs.Expressions.{Expr, Const, Var, One, Two, Op2, nodes, levels}
+use Rattle.logic.specs.Expressions.{Expr, Two, Op2, nodes, levels}
 use Rattle.logic.proofs.Codes.{Below}
 use Rattle.decks.specs.Readings.{Reading, Whole, Wrong, Deep, onward}
 use Rattle.cards.specs.Card.{isDigit}

@@ -6,9 +6,9 @@ use mathlib.Core.Option.{Option, none, some}
 use Prim.Native.Nat.{ℕ, zero, suc, _<_, _≤_}
 use native.Mathlib.Omega.{arith}
 use borrow.Author.Tests.{eq-eqb, ne-eqb}
-use lib.ListN.{getD, drop}
+use lib.ListN.{getD}
 use Rattle.logic.specs.Expressions.{Op1, Op2, Not, Next, Future, Always, And, Or, Until, Weak, constNode, node1, node2}
-use Rattle.decks.specs.Readings.{Reading, Whole, Wrong, Deep}
+use Rattle.decks.specs.Readings.{Reading, Wrong, Deep}
 use Rattle.cards.specs.Grammar.{Sign, Constant, Variable, Before, Bracket, NoSign, signOf, jointOf, past, pastJoint, levelled, begins, readExpr}
 use Rattle.phrases.specs.Phrases.{markOf, jointMark}
 

@@ -14,7 +14,7 @@ use Rattle.cards.specs.Read.{wholeExpr}
 use Rattle.grammar.specs.Ahead.{ahead, Settled, Skips}
 use Rattle.grammar.proofs.Ahead.{ahead-end, ahead-ink}
 use Rattle.phrases.specs.declared.Phrase.{Phrase}
-use Rattle.phrases.specs.Phrases.{Tells, Reads, refusalOf, TellsWhole, Fills}
+use Rattle.phrases.specs.Phrases.{Tells, Reads, restOf, refusalOf, TellsWhole, Fills}
 use Rattle.phrases.proofs.Operators.{tells-whole}
 
 module _ (n : ℕ) (cs : List ℕ) where
@@ -44,12 +44,12 @@ module _ (chars : List ℕ) (at end : ℕ) (out : List ℕ) (e : Phrase) (after 
   pub fills-fault : Reads chars at end (readExpr 32 (ahead chars at end)) out 0 0 e after → (e .stop ≡ 0 → ⊥) → Fills chars at end out e after
   fills-fault f z =
       let both = go (readExpr 32 (ahead chars at end)) refl (f .told) in
-      record { from = f .from; within = f .within; few = omega (arith, f .few); long = f .long; settled = both .0; told = both .1 }
+      record { from = f .from; within = f .within; few = omega (arith, f .few); long = f .long; settled = both .0; rest = both .1; told = both .2 }
     where
-      go : (R : Reading) → readExpr 32 (ahead chars at end) ≡ R → Tells chars end R out 0 e after → Settled chars end (e .next) × ((n : ℕ) → TellsWhole n (wholeExpr n (ahead chars at end)) out e after)
+      go : (R : Reading) → readExpr 32 (ahead chars at end) ≡ R → Tells chars end R out 0 e after → Settled chars end (e .next) × (ahead chars (e .next) end ≡ restOf (readExpr 32 (ahead chars at end))) × ((n : ℕ) → TellsWhole n (wholeExpr n (ahead chars at end)) out e after)
       go (Whole a rest) q t = absurd (z (t .0))
-      go (Wrong rest) q t = (t .2, λ n. told-by e n (Refused (NotDue n)) (whole-wrong n (ahead chars at end) rest q) (refused n 1 (t .0) z))
-      go (Deep rest) q t = (t .2, λ n. told-by e n (Refused (TooDeep n)) (whole-deep n (ahead chars at end) rest q) (refused n 2 (t .0) z))
+      go (Wrong rest) q t = (t .2, t .1 ∙ sym (ap restOf q), λ n. told-by e n (Refused (NotDue n)) (whole-wrong n (ahead chars at end) rest q) (refused n 1 (t .0) z))
+      go (Deep rest) q t = (t .2, t .1 ∙ sym (ap restOf q), λ n. told-by e n (Refused (TooDeep n)) (whole-deep n (ahead chars at end) rest q) (refused n 2 (t .0) z))
 
   module _ (f : Reads chars at end (readExpr 32 (ahead chars at end)) out 0 0 e after) (z : e .stop ≡ 0) (p : ℕ) (s : Skips chars (e .next) end p) where
     read : (a : Expr) × (readExpr 32 (ahead chars at end) ≡ Whole a (ahead chars (e .next) end)) × (e .used ≡ 0 + nodes a) × (after ≡ splice 0 (code a) out)
@@ -63,6 +63,7 @@ module _ (chars : List ℕ) (at end : ℕ) (out : List ℕ) (e : Phrase) (after 
           few = omega (arith, f .few, s .from);
           long = f .long;
           settled = s .settled;
+          rest = s .same ∙ sym (ap restOf (read .1));
           told = λ n.
               told-by
               _
@@ -86,6 +87,7 @@ module _ (chars : List ℕ) (at end : ℕ) (out : List ℕ) (e : Phrase) (after 
           few = omega (arith, f .few, s .from);
           long = f .long;
           settled = s .settled;
+          rest = s .same ∙ sym (ap restOf (read .1));
           told = λ n.
               told-by
               _

@@ -9,11 +9,12 @@ use lib.Dec.{eqb}
 use lib.ListN.{length, take, set}
 use Rattle.lists.specs.Lists.{chosen, splice}
 use Rattle.logic.specs.Expressions.{Expr, Op2, nodes, code, constNode, node1, node2}
+use Rattle.logic.specs.Decks.{base}
 use Rattle.decks.specs.declared.Answer.{Answer}
 use Rattle.decks.specs.declared.Answer.the-variants.{NotDue, TooDeep}
 use Rattle.decks.specs.Answers.{Outcome, Got, Refused}
 use Rattle.decks.specs.Readings.{Reading, Whole, Wrong, Deep}
-use Rattle.cards.specs.Grammar.{Sign, Constant, Variable, Before, Bracket, NoSign, past, pastJoint}
+use Rattle.cards.specs.Grammar.{Sign, Constant, Variable, Before, Bracket, NoSign, past, pastJoint, readExpr}
 use Rattle.cards.specs.Read.{wholeExpr}
 use Rattle.grammar.specs.Ahead.{ahead, Settled}
 use Rattle.phrases.specs.declared.Phrase.{Phrase}
@@ -72,6 +73,12 @@ pub record Closes (chars : List ℕ) (end : ℕ) (second r : Phrase) : Type 0 wh
       → ((r .stop ≡ 0) × ((f : List ℕ → Reading) → past (character ")") (ahead chars (second .next) end) f ≡ f (ahead chars (r .next) end)))
       ⊎ ((r .stop ≡ 1) × Settled chars end (r .next) × ((f : List ℕ → Reading) → past (character ")") (ahead chars (second .next) end) f ≡ Wrong (ahead chars (r .next) end)))
 
+-- What stands from where a reading stopped on.
+abbrev pub restOf : Reading → List ℕ
+restOf (Whole e rest) = rest
+restOf (Wrong rest) = rest
+restOf (Deep rest) = rest
+
 -- The answer for a statement of card n that the number of a stop stands for.
 abbrev pub refusalOf : ℕ → ℕ → Answer
 refusalOf n stop = chosen (eqb stop 1) (NotDue n) (TooDeep n)
@@ -88,4 +95,5 @@ pub record Fills (chars : List ℕ) (i end : ℕ) (out : List ℕ) (r : Phrase) 
   pub few : r .used + i ≤ r .next
   pub long : length after ≡ length out
   pub settled : Settled chars end (r .next)
+  pub rest : ahead chars (r .next) end ≡ restOf (readExpr (base .levels) (ahead chars i end))
   pub told : (n : ℕ) → TellsWhole n (wholeExpr n (ahead chars i end)) out r after

@@ -1,10 +1,9 @@
 // Readers of expressions over the characters of a statement; the nodes go in prefix order into a lent array.
 ghost use mathlib.Core.Path.{_≡_};
-ghost use Prim.Native.Nat.{ℕ, suc, _+_, _-_, _*_, _/_, _%_, _<_, _≤_};
+ghost use Prim.Native.Nat.{suc, _+_, _-_, _*_, _/_, _%_, _<_, _≤_};
 ghost use mathlib.Core.List.{_∷_};
 ghost use lib.ListN.{length, set};
 ghost use Rattle.cards.specs.Grammar.{signOf, jointOf, readNumber, variable, readExpr};
-ghost use Rattle.cards.specs.Read.{wholeExpr};
 ghost use Rattle.grammar.specs.Ahead.{ahead};
 ghost use Rattle.phrases.specs.Phrases.{markOf, jointMark, Reads, Joins, Closes, Fills};
 

@@ -2,8 +2,6 @@ use borrow.Author.Needs.{needs}
 use Rattle.grammar.proofs.Characters as laws
 use Rattle.grammar.proofs.is_binary.Statement.{statement}
 use Rattle.grammar.proofs.is_binary.Tie as tie
-use Rattle.grammar.proofs.is_binary.Reads as reads
-use Rattle.grammar.proofs.is_binary.Lts as lts
 
 -- src/lib.rt:161:9
 returns : tie.Need-returns

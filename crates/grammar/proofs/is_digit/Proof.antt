@@ -2,8 +2,6 @@ use borrow.Author.Needs.{needs}
 use Rattle.grammar.proofs.Characters as laws
 use Rattle.grammar.proofs.is_digit.Statement.{statement}
 use Rattle.grammar.proofs.is_digit.Tie as tie
-use Rattle.grammar.proofs.is_digit.Reads as reads
-use Rattle.grammar.proofs.is_digit.Lts as lts
 
 -- src/lib.rt:79:9
 returns : tie.Need-returns

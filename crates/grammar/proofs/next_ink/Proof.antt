@@ -2,9 +2,6 @@ use Rattle.grammar.proofs.Ahead as laws
 use borrow.Author.Needs.{needs}
 use Rattle.grammar.proofs.next_ink.Statement.{statement}
 use Rattle.grammar.proofs.next_ink.Tie as tie
-use Rattle.grammar.proofs.next_ink.Reads as reads
-use Rattle.grammar.proofs.next_ink.Lts as lts
-use Rattle.grammar.proofs.skip.Reads as skip-reads
 
 -- src/lib.rt:60:9
 skip-requires : tie.Need-skip-requires

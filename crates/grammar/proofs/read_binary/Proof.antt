@@ -1,18 +1,11 @@
 use mathlib.Core.Path.{_≡_}
 use Prim.Native.Nat.{_-_, _^_, _<_, _≤_}
-use native.Mathlib.Omega.{arith}
 use Rattle.cards.specs.Read.{readBinary}
 use Rattle.grammar.specs.Ahead.{ahead}
 use Rattle.grammar.proofs.Binaries as laws
 use borrow.Author.Needs.{needs}
 use Rattle.grammar.proofs.read_binary.Statement.{statement}
 use Rattle.grammar.proofs.read_binary.Tie as tie
-use Rattle.grammar.proofs.read_binary.Reads as reads
-use Rattle.grammar.proofs.read_binary.Lts as lts
-use Rattle.grammar.proofs.is_binary.Reads as is-binary-reads
-use Rattle.grammar.proofs.next_ink.Reads as next-ink-reads
-use Rattle.grammar.proofs.skip.Reads as skip-reads
-use Rattle.grammar.proofs.with_digit.Reads as with-digit-reads
 
 abbrev Inv-loop : tie.InvT-loop
 Inv-loop chars at end k state₀ next₀ i₀ state next i = (at ≤ next) × (next ≤ end) × (i ≤ k) × (state < 2 ^ i) × (readBinary 0 k 0 (ahead chars at end) ≡ readBinary i (k - i) state (ahead chars next end))

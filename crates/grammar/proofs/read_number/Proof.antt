@@ -1,13 +1,7 @@
-use native.Mathlib.Omega.{arith}
 use Rattle.grammar.proofs.Numbers as laws
 use borrow.Author.Needs.{needs}
 use Rattle.grammar.proofs.read_number.Statement.{statement}
 use Rattle.grammar.proofs.read_number.Tie as tie
-use Rattle.grammar.proofs.read_number.Reads as reads
-use Rattle.grammar.proofs.read_number.Lts as lts
-use Rattle.grammar.proofs.digit_value.Reads as digit-value-reads
-use Rattle.grammar.proofs.is_digit.Reads as is-digit-reads
-use Rattle.grammar.proofs.next_ink.Reads as next-ink-reads
 
 -- src/lib.rt:98:9
 next-ink-requires : tie.Need-next-ink-requires

@@ -1,6 +1,5 @@
 use mathlib.Core.Path.{_≡_}
 use Prim.Native.Nat.{_-_, _≤_}
-use native.Mathlib.Omega.{arith}
 use lib.ListN.{length, drop}
 use Rattle.cards.specs.Read.{behind}
 use Rattle.grammar.specs.Ahead.{ahead}
@@ -8,9 +7,6 @@ use Rattle.grammar.proofs.Words as laws
 use borrow.Author.Needs.{needs}
 use Rattle.grammar.proofs.read_word.Statement.{statement}
 use Rattle.grammar.proofs.read_word.Tie as tie
-use Rattle.grammar.proofs.read_word.Reads as reads
-use Rattle.grammar.proofs.read_word.Lts as lts
-use Rattle.grammar.proofs.next_ink.Reads as next-ink-reads
 
 abbrev Inv-loop : tie.InvT-loop
 Inv-loop chars at end word next₀ i₀ next i = (at ≤ next) × (next ≤ end) × (behind word (ahead chars at end) ≡ behind (drop i word) (ahead chars next end))

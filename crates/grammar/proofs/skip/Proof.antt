@@ -1,13 +1,10 @@
 use borrow.Author.Needs.{needs}
-use native.Mathlib.Omega.{arith}
 use mathlib.Core.Path.{_≡_}
 use Prim.Native.Nat.{_-_, _≤_}
 use Rattle.grammar.specs.Ahead.{ahead}
 use Rattle.grammar.proofs.Ahead as laws
 use Rattle.grammar.proofs.skip.Statement.{statement}
 use Rattle.grammar.proofs.skip.Tie as tie
-use Rattle.grammar.proofs.skip.Reads as reads
-use Rattle.grammar.proofs.skip.Lts as lts
 
 abbrev Inv-loop : tie.InvT-loop
 Inv-loop chars at end i₀ i = (at ≤ i) × (i ≤ end) × (ahead chars i end ≡ ahead chars at end)

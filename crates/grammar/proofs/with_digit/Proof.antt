@@ -1,10 +1,7 @@
-use native.Mathlib.Omega.{arith}
 use Rattle.grammar.proofs.Characters as laws
 use borrow.Author.Needs.{needs}
 use Rattle.grammar.proofs.with_digit.Statement.{statement}
 use Rattle.grammar.proofs.with_digit.Tie as tie
-use Rattle.grammar.proofs.with_digit.Reads as reads
-use Rattle.grammar.proofs.with_digit.Lts as lts
 
 -- src/lib.rt:172:9
 returns : tie.Need-returns

@@ -1,4 +1,3 @@
-use native.Mathlib.Omega.{arith}
 use borrow.Author.Needs.{needs}
 use Rattle.phrases.proofs.Expressions as leaves
 use Rattle.phrases.proofs.Operators as operators

@@ -2,9 +2,6 @@ use Rattle.phrases.proofs.Operators as laws
 use borrow.Author.Needs.{needs}
 use Rattle.phrases.proofs.closing.Statement.{statement}
 use Rattle.phrases.proofs.closing.Tie as tie
-use Rattle.phrases.proofs.closing.Reads as reads
-use Rattle.phrases.proofs.closing.Lts as lts
-use Rattle.grammar.proofs.next_ink.Reads as next-ink-reads
 
 -- src/lib.rt:191:9
 returns : tie.Need-returns

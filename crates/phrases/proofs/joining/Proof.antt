@@ -2,11 +2,6 @@ use Rattle.phrases.proofs.Operators as laws
 use borrow.Author.Needs.{needs}
 use Rattle.phrases.proofs.joining.Statement.{statement}
 use Rattle.phrases.proofs.joining.Tie as tie
-use Rattle.phrases.proofs.joining.Reads as reads
-use Rattle.phrases.proofs.joining.Lts as lts
-use Rattle.grammar.proofs.next_ink.Reads as next-ink-reads
-use Rattle.phrases.proofs.joint_of.Reads as joint-of-reads
-use Rattle.phrases.proofs.put.Reads as put-reads
 
 -- src/lib.rt:189:9
 returns : tie.Need-returns

@@ -3,8 +3,6 @@ use Rattle.phrases.proofs.Signs as laws
 use borrow.Author.Needs.{needs}
 use Rattle.phrases.proofs.joint_of.Statement.{statement}
 use Rattle.phrases.proofs.joint_of.Tie as tie
-use Rattle.phrases.proofs.joint_of.Reads as reads
-use Rattle.phrases.proofs.joint_of.Lts as lts
 
 -- src/lib.rt:68:9
 returns : tie.Need-returns

@@ -3,8 +3,6 @@ use Rattle.phrases.proofs.Signs as laws
 use borrow.Author.Needs.{needs}
 use Rattle.phrases.proofs.sign_of.Statement.{statement}
 use Rattle.phrases.proofs.sign_of.Tie as tie
-use Rattle.phrases.proofs.sign_of.Reads as reads
-use Rattle.phrases.proofs.sign_of.Lts as lts
 
 -- src/lib.rt:37:9
 returns : tie.Need-returns

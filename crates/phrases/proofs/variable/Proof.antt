@@ -2,10 +2,6 @@ use Rattle.phrases.proofs.Expressions as laws
 use borrow.Author.Needs.{needs}
 use Rattle.phrases.proofs.variable.Statement.{statement}
 use Rattle.phrases.proofs.variable.Tie as tie
-use Rattle.phrases.proofs.variable.Reads as reads
-use Rattle.phrases.proofs.variable.Lts as lts
-use Rattle.grammar.proofs.read_number.Reads as read-number-reads
-use Rattle.phrases.proofs.put.Reads as put-reads
 
 -- src/lib.rt:130:9
 read-number-requires : tie.Need-read-number-requires

@@ -2,10 +2,6 @@ use Rattle.phrases.proofs.Wholes as laws
 use borrow.Author.Needs.{needs}
 use Rattle.phrases.proofs.whole_expression.Statement.{statement}
 use Rattle.phrases.proofs.whole_expression.Tie as tie
-use Rattle.phrases.proofs.whole_expression.Reads as reads
-use Rattle.phrases.proofs.whole_expression.Lts as lts
-use Rattle.grammar.proofs.skip.Reads as skip-reads
-use Rattle.phrases.proofs.expression.Reads as expression-reads
 
 -- src/lib.rt:239:9
 expression-requires : tie.Need-expression-requires
