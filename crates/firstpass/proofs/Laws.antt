@@ -336,10 +336,10 @@ module _ (n : ℕ) where
   unfolding opened
   none-open hand e = rw e refl
 
-  pub too-many : (hand : ℕ) → (hand ≡ 0 → ⊥) → continuations < hand → Refused (TooManyCards n) ≡ opened n Continuing (openOf hand)
+  pub too-many : (hand : ℕ) → continuations < hand → Refused (TooManyCards n) ≡ opened n Continuing (openOf hand)
   unfolding opened
-  too-many zero h m = absurd (h refl)
-  too-many (suc k) h m = sym (ap (λ (t : Bool). refuse t (TooManyCards n) (Got (Continued (k + 1)))) (lt-ltb continuations (k + 1) (omega arith)))
+  too-many zero m = absurd (omega arith)
+  too-many (suc k) m = sym (ap (λ (t : Bool). refuse t (TooManyCards n) (Got (Continued (k + 1)))) (lt-ltb continuations (k + 1) (omega arith)))
 
   pub one-more : (hand : ℕ) → (hand ≡ 0 → ⊥) → hand ≤ continuations → Got (openOf (hand + 1)) ≡ opened n Continuing (openOf hand)
   unfolding opened

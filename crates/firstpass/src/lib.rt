@@ -1,7 +1,7 @@
 // One card: where it ends, its columns, its kind and its field; and the first pass, card by card, the faults 2 to 7.
 ghost use mathlib.Core.Path.{_≡_};
 ghost use mathlib.Core.Bool.{not, _&&_};
-ghost use Prim.Native.Nat.{ℕ, _+_, _-_, _<_, _≤_, min};
+ghost use Prim.Native.Nat.{_+_, _-_, _<_, _≤_, min};
 ghost use lib.ListN.{length, take, drop};
 ghost use Rattle.cards.specs.Card.{cardsOf, fieldStart, fieldEnd, column, columns, every, isBlank, printable, isComment, Continuing, numbered, kindOf, closes, opened, cardInForm, inForm};
 ghost use Rattle.firstpass.specs.Passed.{lineLength, between, free, kindIs, openOf, outcomeOf, passed};

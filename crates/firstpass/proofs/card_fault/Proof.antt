@@ -1,3 +1,8 @@
+use Prim.Native.Nat.{_<_}
+use lib.ListN.{length}
+use denote.Ref.{now}
+use Rattle.cards.specs.Card.{cardColumns}
+use native.Mathlib.Omega.{arith}
 use borrow.Author.Needs.{needs}
 use Rattle.firstpass.proofs.Laws as laws
 use Rattle.firstpass.proofs.card_fault.Statement.{statement}
@@ -13,7 +18,7 @@ returns : tie.Need-returns
 returns c = search (needs, laws.bad-byte)
 
 returns-2 : tie.Need-returns-2
-returns-2 c = search (needs, laws.too-wide)
+returns-2 c = let h : cardColumns < length (now (c .before .before .before .before .before .args .card)) = omega arith in search (needs, laws.too-wide)
 
 is-free-requires : tie.Need-is-free-requires
 is-free-requires c κs = search needs

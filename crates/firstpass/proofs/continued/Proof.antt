@@ -1,3 +1,6 @@
+use Prim.Native.Nat.{_<_}
+use Rattle.cards.specs.Card.{continuations}
+use native.Mathlib.Omega.{arith}
 use borrow.Author.Needs.{needs}
 use Rattle.firstpass.proofs.Laws as laws
 use Rattle.firstpass.proofs.continued.Statement.{statement}
@@ -7,7 +10,7 @@ returns : tie.Need-returns
 returns c = search (needs, laws.none-open)
 
 returns-2 : tie.Need-returns-2
-returns-2 c = search (needs, laws.too-many)
+returns-2 c = let h : continuations < c .before .before .args .hand = omega arith in search (needs, laws.too-many)
 
 add-t6 : tie.Need-add-t6
 add-t6 c = search needs
