@@ -80,12 +80,24 @@ fn appended(s: Stmt, n: u64, field: &[u8]) -> Stmt
     }
 }
 
-// Card n folded into the statement.
+// Card n folded into the statement in hand.
+fn append(s: &mut Stmt, n: u64, field: &[u8])
+    requires { ⌜ Room (now s) × (length (now field) ≤ fieldColumns) ⌝ }
+    ensures { λ _. ⌜ now (s .exit) ≡ withCard (now (s .entry)) n (now (field .entry)) ⌝ }
+{
+    let was = *s;
+    let next = appended(was, n, field);
+    *s = next;
+}
+
+// The statement with card n folded into it.
 fn with_card(s: Stmt, n: u64, field: &[u8]) -> Stmt
     requires { ⌜ Room s × (length (now field) ≤ fieldColumns) ⌝ }
     ensures { λ r. ⌜ r ≡ withCard s n (now (field .entry)) ⌝ }
 {
-    appended(s, n, field)
+    let mut t = s;
+    append(&mut t, n, field);
+    t
 }
 
 // The cards that open a statement.
