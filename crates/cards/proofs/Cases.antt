@@ -13,10 +13,10 @@ use Rattle.logic.specs.Decks.{Equation, totalNodes}
 use Rattle.logic.proofs.Cases.{worked}
 use Rattle.decks.specs.declared.Answer.{Answer}
 use Rattle.decks.specs.declared.Reply.{Reply}
-use Rattle.decks.specs.declared.Answer.the-variants.{Fine, ManyEquations, ManyNodes}
+use Rattle.decks.specs.declared.Answer.the-variants.{Fine, TooManyCards, ManyEquations, ManyNodes}
 use Rattle.decks.specs.Answers.{Outcome, Got, Refused, replyOf}
 use Rattle.decks.specs.Readings.{walk, leftSet, complete}
-use Rattle.cards.specs.Card.{blank, columns, every, kindOf, opened, cardInForm}
+use Rattle.cards.specs.Card.{blank, columns, every, Continuing, kindOf, Continued, opened, cardInForm}
 use Rattle.cards.specs.Statement.{gathered}
 use Rattle.cards.specs.Grammar.{secondDigit, readNumber, signOf, jointOf, past, pastJoint, readExpr}
 use Rattle.cards.specs.Typed.{Typed, risingFrom, deckOf}
@@ -38,6 +38,16 @@ mixedText = joined (bytes "      VARS 2" ∷ bytes "      INIT 10" ∷ bytes "  
 mixed-read : readCards mixedText ≡ Got (record { vars = 3; inits = 1 ∷ 2 ∷ []; equations = record { left = 0; right = Const true } ∷ record { left = 1; right = Var 0 } ∷ record { left = 1; right = Const true } ∷ []; property = Var 0 })
 unfolding mixedText joined bytes readCards ended unended fronted stands walk cardInForm opened kindOf every columns gathered statementRead dueStatement equationOrProp endStatement propStatement equationStatement withEquation initStatement readBinary varsStatement wholeNumber wholeExpr behind readExpr pastJoint past jointOf signOf readNumber secondDigit cardsEnd complete leftSet deckOf risingFrom keep firsts others nodes written temporal totalNodes
 mixed-read = refl
+
+-- ---- continuations
+
+nineteenth-continues : opened 20 Continuing (Continued 18) ≡ Got (Continued 19)
+unfolding opened
+nineteenth-continues = refl
+
+twentieth-refused : opened 21 Continuing (Continued 19) ≡ Refused (TooManyCards 21)
+unfolding opened
+twentieth-refused = refl
 
 -- ---- texts of cards and the answers that they get
 

@@ -5,12 +5,12 @@ use mathlib.Core.Bool.{Bool, true, false, not, _&&_, _||_}
 use mathlib.Core.List.{List, [], _∷_, _++_, map, append-assoc}
 use Prim.Native.Nat.{ℕ, suc, _+_, _≤_}
 use native.Mathlib.Omega.{arith}
-use borrow.Author.Tests.{ltb-false, eqb-true}
+use borrow.Author.Tests.{le-ltb, ltb-false, eqb-true}
 use lib.Dec.{ltb, eqb}
 use lib.ListN.{length, getD}
 use Rattle.lists.specs.Lists.{Each}
 use Rattle.lists.proofs.Laws.{each-map, keep-append}
-use Rattle.decks.specs.declared.Answer.the-variants.{NoneOpen, TooManyCards}
+use Rattle.decks.specs.declared.Answer.the-variants.{BadNumber, NoneOpen, TooManyCards}
 use Rattle.decks.specs.Answers.{Got, Refused, refuse}
 use Rattle.decks.specs.Readings.{walk}
 use Rattle.cards.specs.Card.{blank, fieldEnd, cardColumns, continuations, columns, every, isBlank, isDigit, printable, Kind, Comment, Empty, Opening, Continuing, isComment, kindOf, numbered, Open, Shut, Continued, opened, cardInForm, inForm}
@@ -43,6 +43,15 @@ numbered-margins card s e = record {
       (λ d. inr (λ c l h. digit-columns (punched card c) (every-column isDigit 73 cardColumns card (omega arith) d c l h)))
       (either-true (every isBlank (columns 73 cardColumns card)) (every isDigit (columns 73 cardColumns card)) e);
 }
+
+-- On a comment columns 73 to 80 are free; on any other card they are judged, behind columns 1 to 5.
+comment-free : (n : ℕ) (card : List ℕ) (o : Open) → every printable card ≡ true → length card ≤ cardColumns → isComment card ≡ true → cardInForm n card o ≡ opened n (kindOf card) o
+unfolding cardInForm
+comment-free n card o b w c = simp (b, le-ltb cardColumns (length card) w, c)
+
+number-judged : (n : ℕ) (card : List ℕ) (o : Open) → every printable card ≡ true → length card ≤ cardColumns → isComment card ≡ false → every isBlank (columns 1 5 card) ≡ true → numbered card ≡ false → cardInForm n card o ≡ Refused (BadNumber n)
+unfolding cardInForm
+number-judged n card o b w c s e = simp (b, le-ltb cardColumns (length card) w, c, s, e)
 
 -- A card that passes is formed as document 01 asks, and opens, continues or closes as its kind says.
 card-given : (n : ℕ) (card : List ℕ) (o : Open) → Given (λ (q : Open). Formed card × (opened n (kindOf card) o ≡ Got q)) (cardInForm n card o)

@@ -322,7 +322,7 @@ same-levelled operand all cs (Constant b) = tt
 same-levelled operand all cs Variable = tt
 same-levelled operand all cs (Before o) = tt
 same-levelled operand all cs Bracket = tt
-same-levelled operand all cs NoSign = refl
+same-levelled operand all cs NoSign = same-refl (levelled all NoSign)
 
 same-begins : (f g : List ℕ → Reading) (all cs : List ℕ) (s : Sign) → ((rs : List ℕ) → Same (f rs) (g rs)) → Same (begins f all s cs) (begins g all s cs)
 same-begins f g all cs (Constant b) k = refl
