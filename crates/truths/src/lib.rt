@@ -1,0 +1,107 @@
+// The truth of an expression at all states of a claim side by side: the recursion goes once a level.
+ghost use mathlib.Core.Path.{_≡_};
+ghost use Prim.Native.Nat.{ℕ, _+_, _<_, _≤_};
+ghost use lib.ListN.{length, getD};
+ghost use Rattle.evaluator.specs.Pending.{Below};
+ghost use Rattle.truths.specs.Worked.{Leaf, Applied1, Applied2, Ready, Evaluated};
+
+// The node as the number of a variable.
+fn number(node: u16) -> usize
+    ensures { λ r. ⌜ r ≡ node ⌝ }
+{
+    node as usize
+}
+
+// Node i.
+fn node_at(nodes: &[u16], i: usize) -> u16
+    requires { ⌜ i < length (now nodes) ⌝ }
+    ensures { λ r. ⌜ r ≡ getD (now (nodes .entry)) i 0 ⌝ }
+{
+    nodes[i]
+}
+
+// A constant or variable.
+fn leaf(words: &mut [u64], states: &[u64], node: u16)
+    requires { ⌜ Below 63 (now words) × (length (now words) ≡ length (now states)) ⌝ }
+    ensures { λ _. ⌜ Leaf (now (states .entry)) node (now (words .entry)) (now (words .exit)) ⌝ }
+{
+    if node < terms::VARIABLES_END {
+        evaluator::push_variable(words, states, number(node));
+        return;
+    }
+    if node == terms::ONE {
+        evaluator::push(words, 1);
+        return;
+    }
+    evaluator::push(words, 0);
+}
+
+// `~`, `X`, `F` or `G`; `Fa` is `(1Ua)`, `Ga` is `(aW0)`.
+fn apply_one(words: &mut [u64], p: usize, node: u16)
+    requires { ⌜ Below 63 (now words) × (p < length (now words)) ⌝ }
+    ensures { λ _. ⌜ Applied1 p node (now (words .entry)) (now (words .exit)) ⌝ }
+{
+    if node == terms::NOT {
+        evaluator::flip(words);
+        return;
+    }
+    if node == terms::NEXT {
+        evaluator::next(words, p);
+        return;
+    }
+    if node == terms::FUTURE {
+        evaluator::lift(words);
+        evaluator::until(words, p);
+        return;
+    }
+    evaluator::push(words, 0);
+    evaluator::weak(words, p);
+}
+
+// `&`, `+`, `U` or `W`.
+fn apply_two(words: &mut [u64], p: usize, node: u16)
+    requires { ⌜ p < length (now words) ⌝ }
+    ensures { λ _. ⌜ Applied2 p node (now (words .entry)) (now (words .exit)) ⌝ }
+{
+    if node == terms::AND {
+        evaluator::both(words);
+        return;
+    }
+    if node == terms::OR {
+        evaluator::either(words);
+        return;
+    }
+    if node == terms::UNTIL {
+        evaluator::until(words, p);
+        return;
+    }
+    evaluator::weak(words, p);
+}
+
+// The expression that begins at `at`, of no more levels than are left, at every state.
+pub fn evaluate<'a>(
+    nodes: &'a [u16],
+    at: usize,
+    states: &'a [u64],
+    p: usize,
+    words: &mut [u64],
+    left: usize,
+)
+    requires { ⌜ Ready (now nodes) at (now states) p (now words) left ⌝ }
+    ensures { λ _. ⌜ Evaluated (now (nodes .entry)) at (now (states .entry)) p (now (words .entry)) (now (words .exit)) ⌝ }
+{
+    let node = node_at(nodes, at);
+    let operands = terms::places(node);
+    if operands == 0 {
+        leaf(words, states, node);
+        return;
+    }
+    evaluate(nodes, at + 1, states, p, words, left - 1);
+    if operands == 1 {
+        apply_one(words, p, node);
+        return;
+    }
+    let other = terms::second(nodes, at);
+    evaluate(nodes, other, states, p, words, left - 1);
+    apply_two(words, p, node);
+}
