@@ -305,7 +305,7 @@ static void run_lines(void)
 
 static void points_of_cards(void)
 {
-    /* 1 */
+    /* A lone 0 in column 6 opens a statement. */
     begin();
     add("     0\n");
     EXPECT(cards_give(8, 1));
@@ -321,7 +321,7 @@ static void points_of_cards(void)
     card("PROP 0");
     card("END");
     EXPECT(cards_give(0, 0));
-    /* 2 */
+    /* A continuation with a blank field continues; a blank card closes. */
     begin();
     add("      VARS\n     1\n     2 0\n");
     card("INIT");
@@ -331,7 +331,7 @@ static void points_of_cards(void)
     begin();
     add("      VARS\n\n     2 0\n");
     EXPECT(cards_give(6, 3));
-    /* 3 */
+    /* 2 and 3 look at the whole card, comments too; 4 and 5 don't look at comments. */
     begin();
     add_times(" ", 90);
     add("\t\n");
@@ -347,7 +347,7 @@ static void points_of_cards(void)
     add("CXXXX");
     add_times("x", 75);
     EXPECT(cards_give(8, 0));
-    /* 4 */
+    /* A short card is filled before its last columns are judged. */
     begin();
     add_times(" ", 72);
     add("123");
@@ -356,7 +356,7 @@ static void points_of_cards(void)
     add_times(" ", 72);
     add("12345678");
     EXPECT(cards_give(8, 0));
-    /* 5 */
+    /* Nothing follows a final byte 10; an empty text lacks its first statement. */
     begin();
     EXPECT(cards_give(8, 0));
     begin();
@@ -365,7 +365,7 @@ static void points_of_cards(void)
     begin();
     add("      VARS 0\n      INIT\n      PROP 0\n      END");
     EXPECT(cards_give(0, 0));
-    /* 6 */
+    /* 8 names the statement that stands where another is due, or 0 at the end. */
     begin();
     card("VARS 0");
     card("INIT");
@@ -376,7 +376,7 @@ static void points_of_cards(void)
     card("INIT");
     card("PROP 0");
     EXPECT(cards_give(8, 0));
-    /* 7 */
+    /* Numbers, with blanks gone, and the digits of INIT. */
     static const char *const vars[] = { "VARS 65", "VARS 04", "VARS 100", "VARS", "VARS 4X", "vars 4" };
     for (int i = 0; i < 6; i++) {
         begin();
@@ -392,7 +392,7 @@ static void points_of_cards(void)
     EXPECT(third_gives("INIT 01", "", 0, "", 8));
     EXPECT(third_gives("INIT", "", 0, "", 8));
     EXPECT(third_gives("INIT 2", "", 0, "", 8));
-    /* 8 */
+    /* The inside of a form that is not due is not read. */
     begin();
     card("VARS 1");
     card_of("PROP ", "~", 40, "0");
@@ -403,7 +403,7 @@ static void points_of_cards(void)
     card("V0=V0");
     card("INIT 1");
     EXPECT(cards_give(8, 4));
-    /* 9 */
+    /* 8 and 11: the one met first from the left. */
     EXPECT(third_gives("V0=", "~", 32, "0)", 11));
     EXPECT(third_gives("V0=", "~", 32, ")", 8));
     EXPECT(third_gives("V0=", "~", 32, "", 8));
@@ -413,13 +413,13 @@ static void points_of_cards(void)
     EXPECT(third_gives("V0=(V1)+", "~", 32, "0", 8));
     EXPECT(third_gives("PROP ", "(0&", 32, "0", 11));
     EXPECT(third_gives("V0=(V0)", "", 0, "", 8));
-    /* 10 */
+    /* 8 in equations is decided by the full grammar. */
     EXPECT(third_gives("V0=X)", "", 0, "", 8));
     EXPECT(third_gives("V0=X0", "", 0, "", 10));
     EXPECT(third_gives("V0=(0U1)", "", 0, "", 10));
     EXPECT(third_gives("V0=(0W1)", "", 0, "", 10));
     EXPECT(third_gives("V0=", "X", 32, "0", 11));
-    /* 11 */
+    /* 9, 10, 12, 13, 14 of one statement, in this order. */
     EXPECT(third_gives("V1=X0", "", 0, "", 9));
     EXPECT(third_gives("V0=(X0&V99)", "", 0, "", 9));
     for (int over = 0; over <= 1; over++) {
@@ -465,7 +465,7 @@ static void points_of_cards(void)
         card("END");
         EXPECT(over ? cards_give(14, 3) : cards_give(0, 0));
     }
-    /* 12 */
+    /* Asides may follow END; a lower-case c is no comment. */
     begin();
     card("VARS 0");
     card("INIT");
@@ -484,7 +484,7 @@ static void points_of_cards(void)
 
 static void points_of_frames(void)
 {
-    /* 13 */
+    /* Behind a code at level 33 nothing is seen. */
     begin();
     add(SET I0 "0300");
     add_times("42", 32);
@@ -510,7 +510,7 @@ static void points_of_frames(void)
     add_times("42", 31);
     add("00\n0400\n050004\n");
     EXPECT(frames_give(0, 0));
-    /* 14 */
+    /* A line left open is not examined: the text ends early. */
     EXPECT(deck_gives("", 16, 0));
     EXPECT(deck_gives("\n", 16, 1));
     EXPECT(deck_gives("x", 16, 0));
@@ -525,7 +525,7 @@ static void points_of_frames(void)
     EXPECT(is(check(bare_deck("40"), "1100000001\n" S0 "150002"), 16, 2, 0));
     EXPECT(is(check(bare_deck("40"), "1100000001\n" S0), 16, 2, 0));
     EXPECT(is(check(bare_deck("40"), ""), 16, 2, 0));
-    /* 15 */
+    /* Wrong kind, length, digits or count. */
     EXPECT(deck_gives(I0, 16, 1));
     EXPECT(deck_gives(SET "0400\n", 16, 2));
     EXPECT(deck_gives(SET I0 "0500\n", 16, 3));
@@ -537,7 +537,7 @@ static void points_of_frames(void)
     EXPECT(deck_gives(SET I0 "030000\n0400\n050005\n", 16, 5));
     EXPECT(is(check(bare_deck("40"), "1100000001\n" S0 "150003\n"), 16, 2, 3));
     EXPECT(is(check(bare_deck("40"), "1100000001\n" S0 S0 "150003\n"), 16, 2, 3));
-    /* 16 */
+    /* The number of a 03: 40 on is no number, falling is met before 11. */
     EXPECT(deck_gives(SET I0 "034000\n", 16, 3));
     EXPECT(deck_gives(SET I0 "033F00\n", 9, 3));
     EXPECT(deck_gives(SET I0 "033F004\n", 16, 3));
@@ -547,7 +547,7 @@ static void points_of_frames(void)
     add_times("42", 32);
     add("00\n");
     EXPECT(frames_give(16, 4));
-    /* 17 */
+    /* An equal 65th initial state is no 12. */
     for (int equal = 0; equal <= 1; equal++) {
         begin();
         add("01FFFFFFFFFFFFFFFF\n");
@@ -558,16 +558,16 @@ static void points_of_frames(void)
         }
         EXPECT(frames_give(equal ? 16 : 12, 66));
     }
-    /* 18 */
+    /* Line by line. */
     EXPECT(deck_gives(SET "020000000000000002\n" "xx\n", 9, 2));
-    /* 19 */
+    /* The lengths of a claim are judged before its states. */
     EXPECT(is(check(bare_deck("40"), "1100000000\n"), 16, 2, 1));
     EXPECT(is(check(bare_deck("40"), "1100000401\n"), 16, 2, 1));
     EXPECT(is(check(bare_deck("40"), "11FFFFFFFF\n"), 16, 2, 1));
     EXPECT(is(check(bare_deck("40"), "1100000400\n"), 16, 2, 0));
-    /* 20 */
+    /* A claim's state outside the deck's set. */
     EXPECT(is(check(bare_deck("40"), "1100000002\n" S0 S1 "xx\n"), 9, 2, 3));
-    /* 21 */
+    /* The deck before the claim and the cone's set. */
     begin();
     add_times("0", 64801);
     EXPECT(cards_give(1, 0) && frames_give(1, 0));
