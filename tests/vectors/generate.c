@@ -3,8 +3,9 @@
        generate SEED CASES BUNDLE EXPECTED
 
    The same seed and number of cases give the same bytes on any machine: no
-   expression draws twice in an order that C leaves open. The formats are those of README.md. A table of the replies goes to standard
-   output. No case carries its own expectation: the reference alone replies. */
+   expression draws twice in an order that C leaves open. The formats are those
+   of README.md. A table of the replies goes to standard output. No case
+   carries its own expectation: the reference alone replies. */
 #include "../reference/reference.h"
 
 #include <stdbool.h>
