@@ -4,7 +4,7 @@ use mathlib.Core.Path.{_≡_}
 use mathlib.Core.Bool.{Bool}
 use Prim.Native.Nat.{ℕ, _-_, _/_, _%_, _^_, _<_}
 use lib.Bits.{bitAnd, bitOr}
-use lib.Count.{ones}
+use lib.Count.{ones, trailingZeros}
 use lib.Dec.{eqb}
 
 -- Digit i of s.
@@ -45,6 +45,10 @@ inside s t = eqb (meet s t) s
 abbrev pub without : ℕ → ℕ → ℕ
 without s t = s - bitAnd s t
 
+-- Whether every variable of s is in t.
+abbrev pub inside : ℕ → ℕ → Bool
+inside s t = eqb (meet s t) s
+
 -- The number of variables in s: the ones among its digits.
 abbrev pub size : ℕ → ℕ
 size s = ones s
@@ -52,3 +56,11 @@ size s = ones s
 -- i is the lowest variable of s.
 abbrev pub Lowest : ℕ → ℕ → Type 0
 Lowest s i = (s ∋ i) × ((j : ℕ) → j < i → s ∋ j → ⊥)
+
+-- The variables that a word has room for are those below this.
+abbrev pub width : ℕ
+width = 64
+
+-- The lowest variable of s; the width where s has none.
+abbrev pub lowestOf : ℕ → ℕ
+lowestOf s = trailingZeros width s
