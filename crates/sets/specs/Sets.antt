@@ -37,10 +37,6 @@ union s t = bitOr s t
 abbrev pub meet : ℕ → ℕ → ℕ
 meet s t = bitAnd s t
 
--- Whether every variable of s is in t.
-abbrev pub inside : ℕ → ℕ → Bool
-inside s t = eqb (meet s t) s
-
 -- The variables of s that are not in t.
 abbrev pub without : ℕ → ℕ → ℕ
 without s t = s - bitAnd s t
