@@ -17,7 +17,7 @@ use Rattle.lists.specs.Lists.{_among_, ended, unended}
 use Rattle.lists.proofs.Laws.{ended-none, ended-next, unended-whole, unended-next}
 use Rattle.frames.specs.Hex.{digitOf, byteOf, numberFrom, number}
 use Rattle.frames.specs.Read.{kindOf}
-use Rattle.lines.specs.Steps.{lineLength, numberRead}
+use Rattle.lines.specs.Steps.{lineLength, numberRead, countIs}
 use Rattle.lines.specs.declared.Number.{Number}
 use Rattle.lines.specs.declared.Number.the-variants.{Good, Bad}
 
@@ -204,6 +204,28 @@ module _ (l : List ℕ) (at k i value place : ℕ) where
 
   pub number-doubled : i < k → k ≤ 8 → value < 256 ^ i → 256 * value < 2 ^ 64
   number-doubled h m v = omega (arith, number-fits 0 h m v (lit< tt))
+
+-- What the number read says of the number.
+pub read-good : (o : Option ℕ) (r : Number) (x : ℕ) → r ≡ numberRead o → r ≡ Good x → o ≡ some x
+read-good none r x e q = let z : Bad ≡ Good x = sym e ∙ q in cc
+read-good (some y) r x e q = let z : Good y ≡ Good x = sym e ∙ q in cc
+
+pub read-bad : (o : Option ℕ) (r : Number) → r ≡ numberRead o → r ≡ Bad → o ≡ none
+read-bad none r e q = refl
+read-bad (some y) r e q = let z : Good y ≡ Bad = sym e ∙ q in cc
+
+module _ (cs : List ℕ) (r : Number) (n x : ℕ) where
+  pub counts-none : r ≡ numberRead (number 2 cs) → r ≡ Bad → false ≡ countIs n cs
+  unfolding countIs
+  counts-none e q = simp (read-bad (number 2 cs) r e q, countIs)
+
+  pub counts-some : 1 ≤ n → r ≡ numberRead (number 2 cs) → r ≡ Good x → eqb x (n - 1) ≡ countIs n cs
+  unfolding countIs
+  counts-some h e q = let c : countIs n cs ≡ eqb (x + 1) n = simp (read-good (number 2 cs) r x e q, countIs) in go (ℕ-discrete x (n - 1)) ∙ sym c
+    where
+      go : Dec (x ≡ n - 1) → eqb x (n - 1) ≡ eqb (x + 1) n
+      go (yes s) = eq-eqb x (n - 1) s ∙ sym (eq-eqb (x + 1) n (omega arith))
+      go (no d) = ne-eqb x (n - 1) d ∙ sym (ne-eqb (x + 1) n (λ s. d (omega arith)))
 
 -- ---- what stands in a text from a place on
 

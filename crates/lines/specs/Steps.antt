@@ -7,6 +7,7 @@ use lib.Dec.{ltb, eqb}
 use lib.ListN.{length, drop}
 use Rattle.sets.specs.Sets.{only}
 use Rattle.logic.specs.Expressions.{Expr, nodes, written, temporal}
+use Rattle.frames.specs.Hex.{number}
 use Rattle.frames.specs.Read.{Sign, Leaf, Before, Between, NoSign, Reading, Whole, Wrong, Deep, kindOf}
 use Rattle.lines.specs.declared.Number.{Number}
 use Rattle.lines.specs.declared.Number.the-variants.{Good, Bad}
@@ -21,6 +22,10 @@ lineLength (b ∷ bs) = elim (eqb b 10) [ true ↦ 0 | false ↦ suc (lineLength
 abbrev pub numberRead : Option ℕ → Number
 numberRead none = Bad
 numberRead (some n) = Good n
+
+-- Whether the two bytes of a 05 or 15 are the number of frames before line n.
+unfoldable pub countIs : ℕ → List ℕ → Bool
+countIs n cs = elim (number 2 cs) [ none ↦ false | some x ↦ eqb (x + 1) n ]
 
 -- How many operands a sign has; 3 for none.
 abbrev pub placesOf : Sign → ℕ

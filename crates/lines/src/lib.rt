@@ -7,7 +7,7 @@ ghost use lib.Dec.{leb};
 ghost use Rattle.lists.specs.Lists.{splice};
 ghost use Rattle.frames.specs.Hex.{digitOf, number};
 ghost use Rattle.frames.specs.Read.{signOf, kindOf, readExpr};
-ghost use Rattle.lines.specs.Steps.{lineLength, numberRead, placesOf, stepOf, leafVars, nodeOf, nodesOf};
+ghost use Rattle.lines.specs.Steps.{lineLength, numberRead, countIs, placesOf, stepOf, leafVars, nodeOf, nodesOf};
 
 // Byte 10 ends a line.
 const LINE_END: u8 = 10;
@@ -113,7 +113,7 @@ pub fn line_end(text: &[u8], at: usize) -> usize
 
 // The number of exactly k pairs from a place of the line to its end.
 pub fn number_at(line: &[u8], at: usize, k: usize) -> Number
-    requires { ⌜ (k ≤ 8) × (at ≤ length (now line)) ⌝ }
+    requires { ⌜ k ≤ 8 ⌝ }
     ensures { λ r. ⌜ r ≡ numberRead (number k (drop at (now (line .entry)))) ⌝ }
 {
     let mut value = 0u64;
@@ -132,6 +132,17 @@ pub fn number_at(line: &[u8], at: usize, k: usize) -> Number
         return Number::Bad;
     }
     Number::Good(value)
+}
+
+// Whether the number of two bytes behind the kind counts the frames before line n.
+pub fn counts(line: &[u8], n: u64) -> bool
+    requires { ⌜ 1 ≤ n ⌝ }
+    ensures { λ r. ⌜ r ≡ countIs n (drop 2 (now (line .entry))) ⌝ }
+{
+    let Number::Good(x) = number_at(line, 2, 2) else {
+        return false;
+    };
+    x == n - 1
 }
 
 // How many operands the code's sign has; 3 where the code is no sign.

@@ -10,7 +10,7 @@ use Rattle.lines.proofs.number_at.Lts as lts
 use Rattle.lines.proofs.pair_at.Reads as pair-at-reads
 
 abbrev Inv-loop : tie.InvT-loop
-Inv-loop line at k value₀ i₀ place₀ value i place = (i ≤ k) × (value < 256 ^ i) × (place ≤ length line) × laws.NumberSofar line at k i value place
+Inv-loop line at k value₀ i₀ place₀ value i place = (i ≤ k) × (value < 256 ^ i) × laws.NumberSofar line at k i value place
 
 abbrev μ-loop : tie.MeasureT-loop
 μ-loop line at k value₀ i₀ place₀ value i place = k - i
@@ -37,7 +37,7 @@ add-value c = search (needs, laws.number-fits)
 
 -- src/lib.rt:121:9
 add-place : tie.Need-add-place Inv-loop μ-loop
-add-place c = search (needs, laws.pair-inside)
+add-place c = omega (arith, laws.pair-inside (c .before .before .before .before .before .args .line .now) (c .before .before .before .loop .place) (c .before .pair-at .result) (c .before .pair-at .ensures) (c .if1 .left))
 
 -- src/lib.rt:122:9
 add-i : tie.Need-add-i Inv-loop μ-loop
