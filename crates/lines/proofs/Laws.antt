@@ -1,7 +1,7 @@
 -- Laws of pairs, line ends and numbers.
 use mathlib.Core.Path.{_≡_, refl, sym, ap, _∙_, subst}
 use mathlib.Core.Logic.{_⊎_, inl, inr, ⊎-elim}
-use mathlib.Core.Bool.{Bool, true, false}
+use mathlib.Core.Bool.{Bool, true, false, not}
 use mathlib.Core.List.{List, [], _∷_, _++_}
 use mathlib.Core.Option.{Option, none, some}
 use Prim.Native.Nat.{ℕ, zero, suc, _+_, _-_, _*_, _^_, _<_, _≤_}
@@ -16,7 +16,9 @@ use borrow.Author.Tests.{lt-ltb, le-ltb, le-leb, lt-leb, eq-eqb, ne-eqb, ltb-tru
 use Rattle.lists.specs.Lists.{_among_, ended, unended}
 use Rattle.lists.proofs.Laws.{ended-none, ended-next, unended-whole, unended-next}
 use Rattle.frames.specs.Hex.{digitOf, byteOf, numberFrom, number}
-use Rattle.frames.specs.Read.{kindOf}
+use Rattle.decks.specs.declared.Answer.the-variants.{BadFrame}
+use Rattle.decks.specs.Answers.{Outcome, Got, Refused, refuse}
+use Rattle.frames.specs.Read.{kindOf, wholeNumber, countLine}
 use Rattle.lines.specs.Steps.{lineLength, numberRead, countIs}
 use Rattle.lines.specs.declared.Number.{Number}
 use Rattle.lines.specs.declared.Number.the-variants.{Good, Bad}
@@ -213,6 +215,24 @@ read-good (some y) r x e q = let z : Good y ≡ Good x = sym e ∙ q in cc
 pub read-bad : (o : Option ℕ) (r : Number) → r ≡ numberRead o → r ≡ Bad → o ≡ none
 read-bad none r e q = refl
 read-bad (some y) r e q = let z : Good y ≡ Bad = sym e ∙ q in cc
+
+module _ (t n k : ℕ) (cs : List ℕ) (r : Number) where
+  pub whole-number-none : r ≡ numberRead (number k cs) → r ≡ Bad → wholeNumber t n k cs ≡ Refused (BadFrame t n)
+  unfolding wholeNumber
+  whole-number-none e q = simp (read-bad (number k cs) r e q, wholeNumber)
+
+  pub whole-number-some : (x : ℕ) → r ≡ numberRead (number k cs) → r ≡ Good x → wholeNumber t n k cs ≡ Got x
+  unfolding wholeNumber
+  whole-number-some x e q = simp (read-good (number k cs) r x e q, wholeNumber)
+
+-- 05 and 15 by their count.
+pub count-line : {S : Type 0} (t n : ℕ) (cs : List ℕ) (s : S) → countLine t n cs s ≡ refuse (not (countIs n cs)) (BadFrame t n) (Got s)
+unfolding countLine countIs wholeNumber
+count-line t n cs s = go (number 2 cs) refl
+  where
+    go : (o : Option ℕ) → number 2 cs ≡ o → countLine t n cs s ≡ refuse (not (countIs n cs)) (BadFrame t n) (Got s)
+    go none e = simp (e, countLine, countIs, wholeNumber)
+    go (some x) e = simp (e, countLine, countIs, wholeNumber)
 
 module _ (cs : List ℕ) (r : Number) (n x : ℕ) where
   pub counts-none : r ≡ numberRead (number 2 cs) → r ≡ Bad → false ≡ countIs n cs
