@@ -6,11 +6,11 @@ use Prim.Native.Nat.{ℕ, zero, suc, _+_, _-_, _*_, _%_, _^_, _<_, _≤_}
 use native.Mathlib.Omega.{arith}
 use native.Mathlib.Numerals.{add-one}
 use lib.Dec.{ltb, eqb}
-use lib.ListN.{length, take, drop, getD, set, replicate, length-append, length-drop, length-replicate, drop-of-length-le}
+use lib.ListN.{length, take, drop, getD, set, replicate, length-append, length-drop, length-set, length-replicate, drop-of-length-le}
 use lib.Seq.{drop-cons, drop-nil, getD-take, length-take-le, drop-drop, take-append-seam, drop-append-add}
 use borrow.Author.Tests.{lt-ltb, le-ltb, eq-eqb, ne-eqb}
 use Rattle.lists.specs.Lists.{stands, padded, splice}
-use Rattle.lists.proofs.Laws.{padded-snoc, padded-nil, take-padded}
+use Rattle.lists.proofs.Laws.{padded-snoc, padded-nil, take-padded, length-splice}
 use Rattle.sets.specs.Sets.{has, inside, only, union}
 use Rattle.sets.proofs.Laws.{ext, bit-union, bit-zero, only-within}
 use Rattle.logic.specs.Expressions.{Expr, Const, nodes, written, temporal, code}
@@ -27,11 +27,11 @@ use Rattle.lines.specs.declared.Number.the-variants.{Good, Bad}
 use Rattle.lines.specs.declared.Step.{Step}
 use Rattle.lines.specs.Steps.{numberRead, stepOf, nodesOf}
 use Rattle.lines.proofs.Laws.{whole-number-none, whole-number-some, pair-inside}
-use Rattle.lines.proofs.Steps.{Spans, whole-spans, whole-when, whole-next}
+use Rattle.lines.proofs.Steps.{Spans, whole-spans, whole-when, whole-next, length-nodesOf}
 use Rattle.decklines.specs.declared.Held.{Held}
 use Rattle.decklines.specs.declared.LineRead.{LineRead}
 use Rattle.decklines.specs.declared.ExprRead.{ExprRead}
-use Rattle.decklines.specs.Held.{heldOf, lineOf, exprOf, InitsAfter, InitCame, propertyOf, PropertyAfter, PropertyCame, EquationsAfter, Room}
+use Rattle.decklines.specs.Held.{heldOf, lineOf, exprOf, InitsAfter, InitCame, propertyOf, PropertyAfter, PropertyCame, EquationsAfter, EquationCame, Room}
 
 abbrev pub held : ℕ → ℕ → ℕ → ℕ → ℕ → ℕ → ℕ → ℕ → Held
 held d v i e u l c z = record { due = d; vars = v; initials = i; equations = e; used = u; last = l; covered = c; size = z }
@@ -466,3 +466,116 @@ variable-within line v e h = pair-inside line 2 v e (omega arith)
 -- A line that passed 13 and 14 has room.
 pub has-room : (line : List ℕ) (h : Held) (e : ExprRead) (v c : ℕ) → v < 64 → h .equations + 1 ≤ 256 → h .used + e .nodes ≤ 2048 → 4 + 2 * e .nodes ≤ length line → Room line h (went (held 3 (h .vars) (h .initials) (h .equations + 1) (h .used + e .nodes) v c 0))
 has-room line h e v c p q m w = record { few = omega arith; most = m; grows = omega arith; within = omega arith; left-fits = p }
+
+-- ---- 03 stored
+
+refuse-got : {A : Type 0} (b : Bool) (a : Answer) (o : Outcome A) (t : A) → refuse b a o ≡ Got t → o ≡ Got t
+refuse-got true a o t e = let z : Refused a ≡ Got t = e in cc
+refuse-got false a o t e = e
+
+afterwards-got : {A B : Type 0} (o : Outcome A) (f : A → Outcome B) (t : B) → afterwards o f ≡ Got t → (x : A) × (o ≡ Got x) × (f x ≡ Got t)
+afterwards-got (Got x) f t e = (x, refl, e)
+afterwards-got (Refused a) f t e = let z : Refused a ≡ Got t = e in let w : _≡_ {A = ℕ} 0 1 = cc in absurd (omega arith)
+
+with-got : (n : ℕ) (d : Deck) (q : Equation) (t : Sofar) → withEquation n d q ≡ Got t → t .deck .equations ≡ d .equations ++ (q ∷ [])
+unfolding withEquation
+with-got n d q t e =
+    let last : Sofar = record { due = DueEquation; deck = record { vars = d .vars; inits = d .inits; equations = d .equations ++ (q ∷ []); property = d .property } } in
+    let r4 : Outcome Sofar = refuse (ltb 2048 (totalNodes (d .equations) + nodes (q .right))) (ManyNodes n) (Got last) in
+    let r3 : Outcome Sofar = refuse (ltb 256 (length (d .equations) + 1)) (ManyEquations n) r4 in
+    let r2 : Outcome Sofar = refuse (temporal (q .right)) (Temporal n) r3 in
+    let r1 : Outcome Sofar = refuse (not (inside (written (q .right)) (d .vars))) (Outside 1 n) r2 in
+    let e1 : r1 ≡ Got t = refuse-got (not (has (d .vars) (q .left))) (Outside 1 n) r1 t e in
+    let e2 : r2 ≡ Got t = refuse-got (not (inside (written (q .right)) (d .vars))) (Outside 1 n) r2 t e1 in
+    let e3 : r3 ≡ Got t = refuse-got (temporal (q .right)) (Temporal n) r3 t e2 in
+    let e4 : r4 ≡ Got t = refuse-got (ltb 256 (length (d .equations) + 1)) (ManyEquations n) r4 t e3 in
+    let e5 : Got last ≡ Got t = refuse-got (ltb 2048 (totalNodes (d .equations) + nodes (q .right))) (ManyNodes n) (Got last) t e4 in
+    let e6 : last ≡ t = cc in
+    sym (ap (λ (x : Sofar). x .deck .equations) e6)
+
+-- A 03 that was taken adds its equation behind the others.
+equation-got : (n : ℕ) (cs : List ℕ) (d : Deck) (t : Sofar) → equationLine n cs d ≡ Got t → (e : Expr) × (wholeExpr n (drop 2 cs) ≡ Got e) × (t .deck .equations ≡ d .equations ++ (record { left = kindOf cs; right = e } ∷ []))
+equation-got n cs d t q =
+    let f : Expr → Outcome Sofar = λ e. withEquation n d (record { left = kindOf cs; right = e }) in
+    let inner : Outcome Sofar = refuse (ltb (kindOf cs) (lastLeft (d .equations))) (BadFrame 1 n) (afterwards (wholeExpr n (drop 2 cs)) f) in
+    let q1 : inner ≡ Got t = refuse-got (not (ltb (kindOf cs) 64)) (BadFrame 1 n) inner t (sym (equation-is n cs d) ∙ q) in
+    let q2 : afterwards (wholeExpr n (drop 2 cs)) f ≡ Got t = refuse-got (ltb (kindOf cs) (lastLeft (d .equations))) (BadFrame 1 n) (afterwards (wholeExpr n (drop 2 cs)) f) t q1 in
+    let w = afterwards-got (wholeExpr n (drop 2 cs)) f t q2 in
+    (w .0, w .1, with-got n d (record { left = kindOf cs; right = w .0 }) t (w .2))
+
+-- The arrays with one equation more.
+equations-more : (qs : List Equation) (q : Equation) (lefts ends nodes′ : List ℕ) → length qs < 256 → HoldsEquations qs lefts ends nodes′ (length qs)
+    → HoldsEquations (qs ++ (q ∷ [])) (set lefts (length qs) (q .left)) (set ends (length qs) (totalNodes qs + nodes (q .right))) (splice (totalNodes qs) (code (q .right)) nodes′) (length (qs ++ (q ∷ [])))
+equations-more qs q lefts ends nodes′ k h =
+    record {
+      lefts-are =
+          ap (λ (l : List ℕ). set l (length qs) (q .left)) (h .lefts-are)
+          ∙ ap (λ (i : ℕ). set (padded 256 (leftsOf qs)) i (q .left)) (sym (length-lefts qs))
+          ∙ padded-snoc 256 (leftsOf qs) (q .left) (omega (arith, k, length-lefts qs))
+          ∙ ap (padded 256) (sym (lefts-more q qs));
+      ends-are =
+          ap (λ (l : List ℕ). set l (length qs) (totalNodes qs + nodes (q .right))) (h .ends-are)
+          ∙ ap (λ (i : ℕ). set (padded 256 (endsOf 0 qs)) i (totalNodes qs + nodes (q .right))) (sym (length-ends 0 qs))
+          ∙ padded-snoc 256 (endsOf 0 qs) (totalNodes qs + nodes (q .right)) (omega (arith, k, length-ends 0 qs))
+          ∙ ap (padded 256) (ap (λ (i : ℕ). endsOf 0 qs ++ (i ∷ [])) from-zero ∙ sym (ends-more q 0 qs));
+      nodes-are =
+          ap (splice (totalNodes qs) (code (q .right))) (h .nodes-are)
+          ∙ ap (λ (i : ℕ). splice i (code (q .right)) (padded 2048 (codes qs))) (sym (length-codes qs))
+          ∙ padded-append 2048 (codes qs) (code (q .right))
+          ∙ ap (padded 2048) (sym (codes-more q qs));
+      count-is = refl;
+    }
+  where
+    from-zero : totalNodes qs + nodes (q .right) ≡ 0 + totalNodes qs + nodes (q .right)
+    from-zero = omega arith
+
+module _ (line : List ℕ) (n : ℕ) (h : Held) (r : LineRead) (s : Sofar) where
+  -- What the judge of 03 promises.
+  abbrev pub Judged : Type 0
+  Judged = (s : Sofar) → h ≡ heldOf s → r ≡ lineOf (equationLine n (drop 2 line) (s .deck))
+
+  pub equation-stopped : (lefts ends nodes′ : List ℕ) → h ≡ heldOf s → Judged → not (r .fine) ≡ true → EquationCame (equationLine n (drop 2 line) (s .deck)) r lefts ends nodes′
+  equation-stopped lefts ends nodes′ i j f = go (equationLine n (drop 2 line) (s .deck)) (j s i)
+    where
+      go : (o : Outcome Sofar) → r ≡ lineOf o → EquationCame o r lefts ends nodes′
+      go (Got t) e = let z : false ≡ true = ap (λ (k : LineRead). not (k .fine)) (sym e) ∙ f in let w : _≡_ {A = ℕ} 0 1 = cc in absurd (omega arith)
+      go (Refused a) e = record { line-is = e; equations-are = tt }
+
+  pub equation-stored : (lefts ends nodes′ lefts″ ends″ nodes″ : List ℕ) → h ≡ heldOf s → HoldsEquations (s .deck .equations) lefts ends nodes′ (length (s .deck .equations)) → Judged → h .equations < 256 → not (r .fine) ≡ false → lefts″ ≡ set lefts (h .equations) (r .held .last) → ends″ ≡ set ends (h .equations) (r .held .used) → nodes″ ≡ splice (h .used) (nodesOf (r .held .used - h .used) (drop 4 line)) nodes′ → EquationCame (equationLine n (drop 2 line) (s .deck)) r lefts″ ends″ nodes″
+  equation-stored lefts ends nodes′ lefts″ ends″ nodes″ i a j k f p q m = go (equationLine n (drop 2 line) (s .deck)) refl (j s i)
+    where
+      go : (o : Outcome Sofar) → equationLine n (drop 2 line) (s .deck) ≡ o → r ≡ lineOf o → EquationCame o r lefts″ ends″ nodes″
+      go (Refused b) g e = let z : true ≡ false = ap (λ (k : LineRead). not (k .fine)) (sym e) ∙ f in let w : _≡_ {A = ℕ} 0 1 = cc in absurd (omega arith)
+      go (Got t) g e =
+          let qs : List Equation = s .deck .equations in
+          let w = equation-got n (drop 2 line) (s .deck) t g in
+          let x : Equation = record { left = kindOf (drop 2 line); right = w .0 } in
+          let fill : wholeExpr n (drop 4 line) ≡ Got (w .0) = ap (wholeExpr n) (sym (drop-drop 2 2 line)) ∙ w .1 in
+          let count : h .equations ≡ length qs = ap (λ (y : Held). y .equations) i in
+          let before : h .used ≡ totalNodes qs = ap (λ (y : Held). y .used) i in
+          let last : r .held .last ≡ x .left = ap (λ (y : LineRead). y .held .last) e ∙ ap lastLeft (w .2) ∙ last-more x qs in
+          let used : r .held .used ≡ totalNodes qs + nodes (w .0) = ap (λ (y : LineRead). y .held .used) e ∙ ap totalNodes (w .2) ∙ total-more x qs in
+          let own : r .held .used - h .used ≡ nodes (w .0) = omega (arith, used, before) in
+          let more = equations-more qs x lefts ends nodes′ (omega (arith, k, count)) a in
+          let pl : lefts″ ≡ set lefts (length qs) (x .left) = p ∙ ap (λ (y : ℕ). set lefts y (r .held .last)) count ∙ ap (set lefts (length qs)) last in
+          let pe : ends″ ≡ set ends (length qs) (totalNodes qs + nodes (w .0)) = q ∙ ap (λ (y : ℕ). set ends y (r .held .used)) count ∙ ap (set ends (length qs)) used in
+          let pn : nodes″ ≡ splice (totalNodes qs) (code (w .0)) nodes′ = m ∙ ap (λ (y : ℕ). splice y (nodesOf (r .held .used - h .used) (drop 4 line)) nodes′) before ∙ ap (λ (y : List ℕ). splice (totalNodes qs) y nodes′) (ap (λ (y : ℕ). nodesOf y (drop 4 line)) own ∙ filled n (drop 4 line) (w .0) fill) in
+          record {
+            line-is = e;
+            equations-are =
+                subst (λ (y : List Equation). HoldsEquations y lefts″ ends″ nodes″ (length y)) (sym (w .2))
+                (record { lefts-are = pl ∙ more .lefts-are; ends-are = pe ∙ more .ends-are; nodes-are = pn ∙ more .nodes-are; count-is = refl });
+          }
+
+not-false : (b : Bool) → not b ≡ false → b ≡ true
+not-false true e = refl
+not-false false e = let z : true ≡ false = e in let w : _≡_ {A = ℕ} 0 1 = cc in absurd (omega arith)
+
+pub the-room : (line : List ℕ) (h : Held) (r : LineRead) → (r .fine ≡ true → Room line h r) → not (r .fine) ≡ false → Room line h r
+the-room line h r f e = f (not-false (r .fine) e)
+
+pub length-stored : (l out : List ℕ) (i x k : ℕ) → out ≡ set l i x → length l ≡ k → length out ≡ k
+length-stored l out i x k e h = ap (λ (y : List ℕ). length y) e ∙ length-set l i x ∙ h
+
+pub length-spliced : (l out cs : List ℕ) (i n k : ℕ) → out ≡ splice i (nodesOf n cs) l → i + n ≤ length l → length l ≡ k → length out ≡ k
+length-spliced l out cs i n k e f h = ap (λ (y : List ℕ). length y) e ∙ length-splice i (nodesOf n cs) l (omega (arith, f, length-nodesOf n cs)) ∙ h

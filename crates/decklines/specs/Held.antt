@@ -98,3 +98,8 @@ pub record Room (line : List ℕ) (h : Held) (r : LineRead) : Type 0 where
   pub grows : h .used ≤ r .held .used
   pub within : 4 + 2 * (r .held .used - h .used) ≤ length line
   pub left-fits : r .held .last < base .variables
+
+-- What a 03 came to, with the equations behind it.
+pub record EquationCame (o : Outcome Sofar) (r : LineRead) (lefts ends nodes : List ℕ) : Type 0 where
+  pub line-is : r ≡ lineOf o
+  pub equations-are : EquationsAfter o lefts ends nodes

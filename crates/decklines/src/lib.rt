@@ -7,8 +7,9 @@ ghost use Rattle.lists.specs.Lists.{stands, padded};
 ghost use Rattle.logic.specs.Decks.{Deck, base};
 ghost use Rattle.decks.specs.declared.Answer.the-variants.{BadFrame};
 ghost use Rattle.decks.specs.Answers.{Refused};
+ghost use Rattle.decks.specs.Stored.{HoldsEquations};
 ghost use Rattle.frames.specs.Read.{Sofar, begun, wholeExpr, setLine, initLine, equationLine, propertyLine};
-ghost use Rattle.decklines.specs.Held.{heldOf, lineOf, exprOf, InitCame, PropertyCame, Room};
+ghost use Rattle.decklines.specs.Held.{heldOf, lineOf, exprOf, InitCame, PropertyCame, EquationCame, Room};
 
 // The text at fault.
 const DECK_TEXT: u64 = 1;
@@ -285,4 +286,27 @@ fn equation_judged(line: &[u8], n: u64, h: Held) -> LineRead
             size: 0,
         },
     }
+}
+
+// 03: judged, and then its equation stored.
+pub fn equation_line(
+    line: &[u8],
+    n: u64,
+    h: Held,
+    lefts: &mut [u16],
+    ends: &mut [u16],
+    nodes: &mut [u16],
+) -> LineRead
+    requires { ⌜ (h .equations ≤ base .equations) × (h .used ≤ base .equationNodes) × (length (now lefts) ≡ base .equations) × (length (now ends) ≡ base .equations) × (length (now nodes) ≡ base .equationNodes) ⌝ }
+    ensures { λ r. ⌜ (length (now (lefts .exit)) ≡ base .equations) × (length (now (ends .exit)) ≡ base .equations) × (length (now (nodes .exit)) ≡ base .equationNodes) × ((s : Sofar) → h ≡ heldOf s → HoldsEquations (s .deck .equations) (now (lefts .entry)) (now (ends .entry)) (now (nodes .entry)) (length (s .deck .equations)) → EquationCame (equationLine n (drop 2 (now (line .entry))) (s .deck)) r (now (lefts .exit)) (now (ends .exit)) (now (nodes .exit))) ⌝ }
+{
+    let r = equation_judged(line, n, h);
+    if !r.fine {
+        return r;
+    }
+    let held = r.held;
+    lines::put_node(lefts, h.equations, held.last as u16);
+    lines::put_node(ends, h.equations, held.used as u16);
+    lines::store_nodes(line, 4, held.used - h.used, nodes, h.used);
+    r
 }

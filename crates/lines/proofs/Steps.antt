@@ -473,7 +473,7 @@ module _ (l : List ℕ) (at left b k : ℕ) (a : Step) where
 
 -- ---- nodes stored
 
-length-nodesOf : (n : ℕ) (cs : List ℕ) → length (nodesOf n cs) ≡ n
+pub length-nodesOf : (n : ℕ) (cs : List ℕ) → length (nodesOf n cs) ≡ n
 unfolding nodesOf
 length-nodesOf zero cs = refl
 length-nodesOf (suc n) cs = ap suc (length-nodesOf n (drop 2 cs))
