@@ -1,0 +1,581 @@
+-- Laws of the lines of a deck.
+use mathlib.Core.Path.{_≡_, refl, sym, ap, _∙_, subst}
+use mathlib.Core.Bool.{Bool, true, false, not}
+use mathlib.Core.List.{List, [], _∷_, _++_, map, append-assoc, append-nil}
+use Prim.Native.Nat.{ℕ, zero, suc, _+_, _-_, _*_, _%_, _^_, _<_, _≤_}
+use native.Mathlib.Omega.{arith}
+use native.Mathlib.Numerals.{add-one}
+use lib.Dec.{ltb, eqb}
+use lib.ListN.{length, take, drop, getD, set, replicate, length-append, length-drop, length-set, length-replicate, drop-of-length-le}
+use lib.Seq.{drop-cons, drop-nil, getD-take, length-take-le, drop-drop, take-append-seam, drop-append-add}
+use borrow.Author.Tests.{lt-ltb, le-ltb, eq-eqb, ne-eqb}
+use Rattle.lists.specs.Lists.{stands, padded, splice}
+use Rattle.lists.proofs.Laws.{padded-snoc, padded-nil, take-padded, length-splice}
+use Rattle.sets.specs.Sets.{has, inside, only, union}
+use Rattle.sets.proofs.Laws.{ext, bit-union, bit-zero, only-within}
+use Rattle.logic.specs.Expressions.{Expr, Const, nodes, written, temporal, code}
+use Rattle.logic.specs.Decks.{Deck, Equation, base, totalNodes}
+use Rattle.logic.proofs.Codes.{length-code}
+use Rattle.decks.specs.declared.Answer.{Answer}
+use Rattle.decks.specs.declared.Answer.the-variants.{Fine, TooLong, BadFrame, Outside, Temporal, TooDeep, ManyInitials, ManyEquations, ManyNodes}
+use Rattle.decks.specs.Answers.{Outcome, Got, Refused, refuse, afterwards}
+use Rattle.decks.specs.Stored.{leftsOf, endsOf, codes, HoldsEquations}
+use Rattle.frames.specs.Hex.{number}
+use Rattle.frames.specs.Read.{Due, DueSet, DueInit, DueAny, DueEquation, DueCount, DueNone, Sofar, begun, Reading, Whole, Wrong, Deep, readExpr, wholeExpr, wholeNumber, setLine, initLine, propertyLine, withEquation, equationLine, kindOf, lastLeft, leftSet}
+use Rattle.lines.specs.declared.Number.{Number}
+use Rattle.lines.specs.declared.Number.the-variants.{Good, Bad}
+use Rattle.lines.specs.declared.Step.{Step}
+use Rattle.lines.specs.Steps.{numberRead, stepOf, nodesOf}
+use Rattle.lines.proofs.Laws.{whole-number-none, whole-number-some, pair-inside}
+use Rattle.lines.proofs.Steps.{Spans, whole-spans, whole-when, whole-next, length-nodesOf}
+use Rattle.decklines.specs.declared.Held.{Held}
+use Rattle.decklines.specs.declared.LineRead.{LineRead}
+use Rattle.decklines.specs.declared.ExprRead.{ExprRead}
+use Rattle.decklines.specs.Held.{heldOf, lineOf, exprOf, InitsAfter, InitCame, propertyOf, PropertyAfter, PropertyCame, EquationsAfter, EquationCame, Room}
+
+abbrev pub held : ℕ → ℕ → ℕ → ℕ → ℕ → ℕ → ℕ → ℕ → Held
+held d v i e u l c z = record { due = d; vars = v; initials = i; equations = e; used = u; last = l; covered = c; size = z }
+
+abbrev pub went : Held → LineRead
+went h = record { fine = true; answer = Fine; held = h }
+
+pub nothing-held : held 0 0 0 0 0 0 0 0 ≡ heldOf begun
+unfolding totalNodes lastLeft leftSet
+nothing-held = refl
+
+-- ---- a state among the first of a row
+
+module _ (states : List ℕ) (count s i x : ℕ) where
+  abbrev pub StandsSofar : Type 0
+  StandsSofar = stands s (take count states) ≡ stands s (drop i (take count states))
+
+  at-place : count ≤ length states → i < count → drop i (take count states) ≡ getD states i 0 ∷ drop (i + 1) (take count states)
+  at-place h k =
+      drop-cons (take count states) i 0 (omega (arith, length-take-le count states h))
+      ∙ ap (λ (y : ℕ). y ∷ drop (suc i) (take count states)) (getD-take count states i 0 k)
+      ∙ ap (λ (y : ℕ). getD states i 0 ∷ drop y (take count states)) (sym (add-one i))
+
+  pub stands-met : count ≤ length states → i < count → StandsSofar → x ≡ getD states i 0 → s ≡ x → true ≡ stands s (take count states)
+  unfolding stands
+  stands-met h k e p q = sym (e ∙ ap (stands s) (at-place h k) ∙ simp (eq-eqb s (getD states i 0) (q ∙ p), stands))
+
+  pub stands-on : count ≤ length states → i < count → StandsSofar → x ≡ getD states i 0 → (s ≡ x → ⊥) → stands s (take count states) ≡ stands s (drop (i + 1) (take count states))
+  unfolding stands
+  stands-on h k e p q = e ∙ ap (stands s) (at-place h k) ∙ simp (ne-eqb s (getD states i 0) (λ y. q (y ∙ sym p)), stands)
+
+module _ (states : List ℕ) (count s i : ℕ) where
+  pub stands-done : count ≤ length states → count ≤ i → stands s (take count states) ≡ stands s (drop i (take count states)) → false ≡ stands s (take count states)
+  unfolding stands
+  stands-done h k e = sym (e ∙ ap (stands s) (drop-of-length-le (take count states) {i = i} (omega (arith, length-take-le count states h))))
+
+-- ---- 01
+
+module _ (cs : List ℕ) (n : ℕ) (x : Number) (d : Deck) where
+  pub set-number : (r : LineRead) → x ≡ numberRead (number 8 cs) → x ≡ Bad → r ≡ lineOf (Refused (BadFrame 1 n)) → r ≡ lineOf (setLine n cs d)
+  unfolding setLine
+  set-number r e f q = let z : setLine n cs d ≡ Refused (BadFrame 1 n) = simp (whole-number-none 1 n 8 cs x e f, setLine) in q ∙ ap lineOf (sym z)
+
+  pub set-fine : (v : ℕ) → x ≡ numberRead (number 8 cs) → x ≡ Good v → went (held 1 v 0 0 0 0 0 0) ≡ lineOf (setLine n cs d)
+  unfolding setLine totalNodes lastLeft leftSet
+  set-fine v e f =
+      let z : setLine n cs d ≡ Got (record { due = DueInit; deck = record { vars = v; inits = []; equations = []; property = d .property } }) = simp (whole-number-some 1 n 8 cs x v e f, setLine) in
+      sym (ap lineOf z)
+
+-- ---- 02
+
+pub refused-few : (r : LineRead) (a : Answer) → r ≡ lineOf (Refused a) → r .held .initials ≤ 64
+refused-few r a e = omega (arith, ap (λ (x : LineRead). x .held .initials) e)
+
+init-refused : (o : Outcome Sofar) (a : Answer) (r : LineRead) (l : List ℕ) → o ≡ Refused a → r ≡ lineOf (Refused a) → InitCame o r l
+init-refused o a r l e q = subst (λ (x : Outcome Sofar). InitCame x r l) (sym e) (record { line-is = q; inits-are = tt })
+
+module _ (cs : List ℕ) (n : ℕ) (h : Held) (x : Number) (inits : List ℕ) (s : Sofar) where
+  pub init-number : (r : LineRead) (out : List ℕ) → x ≡ numberRead (number 8 cs) → x ≡ Bad → r ≡ lineOf (Refused (BadFrame 1 n)) → InitCame (initLine n cs (s .deck)) r out
+  unfolding initLine
+  init-number r out e f q = let z : initLine n cs (s .deck) ≡ Refused (BadFrame 1 n) = simp (whole-number-none 1 n 8 cs x e f, initLine) in init-refused (initLine n cs (s .deck)) (BadFrame 1 n) r out z q
+
+  module _ (v : ℕ) (b : Bool) where
+    known : h ≡ heldOf s → inits ≡ padded 64 (s .deck .inits) → b ≡ stands v (take (h .initials) inits) → stands v (s .deck .inits) ≡ b
+    known e f g =
+        sym (g ∙ ap (λ (y : Held). stands v (take (y .initials) inits)) e ∙ ap (λ (l : List ℕ). stands v (take (length (s .deck .inits)) l)) f ∙ ap (stands v) (take-padded 64 (s .deck .inits)))
+
+    pub init-equal : (r : LineRead) (out : List ℕ) → h ≡ heldOf s → inits ≡ padded 64 (s .deck .inits) → x ≡ numberRead (number 8 cs) → x ≡ Good v → b ≡ stands v (take (h .initials) inits) → b ≡ true → r ≡ lineOf (Refused (BadFrame 1 n)) → InitCame (initLine n cs (s .deck)) r out
+    unfolding initLine
+    init-equal r out e f i j g t q =
+        let z : initLine n cs (s .deck) ≡ Refused (BadFrame 1 n) = simp (whole-number-some 1 n 8 cs x v i j, known e f g ∙ t, initLine) in
+        init-refused (initLine n cs (s .deck)) (BadFrame 1 n) r out z q
+
+    module _ (c : Bool) where
+      judged : h ≡ heldOf s → c ≡ inside v (h .vars) → inside v (s .deck .vars) ≡ c
+      judged e g = sym (g ∙ ap (λ (y : Held). inside v (y .vars)) e)
+
+      pub init-outside : (r : LineRead) (out : List ℕ) → h ≡ heldOf s → inits ≡ padded 64 (s .deck .inits) → x ≡ numberRead (number 8 cs) → x ≡ Good v → b ≡ stands v (take (h .initials) inits) → b ≡ false → c ≡ inside v (h .vars) → not c ≡ true → r ≡ lineOf (Refused (Outside 1 n)) → InitCame (initLine n cs (s .deck)) r out
+      unfolding initLine
+      init-outside r out e f i j g t k u q =
+          let w : not (inside v (s .deck .vars)) ≡ true = ap not (judged e k) ∙ u in
+          let z : initLine n cs (s .deck) ≡ Refused (Outside 1 n) = simp (whole-number-some 1 n 8 cs x v i j, known e f g ∙ t, w, initLine) in
+          init-refused (initLine n cs (s .deck)) (Outside 1 n) r out z q
+
+      pub init-many : (r : LineRead) (out : List ℕ) → h ≡ heldOf s → inits ≡ padded 64 (s .deck .inits) → x ≡ numberRead (number 8 cs) → x ≡ Good v → b ≡ stands v (take (h .initials) inits) → b ≡ false → c ≡ inside v (h .vars) → not c ≡ false → 64 < h .initials + 1 → r ≡ lineOf (Refused (ManyInitials n)) → InitCame (initLine n cs (s .deck)) r out
+      unfolding initLine
+      init-many r out e f i j g t k u m q =
+          let w : not (inside v (s .deck .vars)) ≡ false = ap not (judged e k) ∙ u in
+          let l : 64 < length (s .deck .inits) + 1 = omega (arith, m, ap (λ (y : Held). y .initials) e) in
+          let z : initLine n cs (s .deck) ≡ Refused (ManyInitials n) = simp (whole-number-some 1 n 8 cs x v i j, known e f g ∙ t, w, lt-ltb 64 (length (s .deck .inits) + 1) l, initLine) in
+          init-refused (initLine n cs (s .deck)) (ManyInitials n) r out z q
+
+      pub init-fine : (out : List ℕ) → h ≡ heldOf s → inits ≡ padded 64 (s .deck .inits) → x ≡ numberRead (number 8 cs) → x ≡ Good v → b ≡ stands v (take (h .initials) inits) → b ≡ false → c ≡ inside v (h .vars) → not c ≡ false → h .initials + 1 ≤ 64 → out ≡ set inits (h .initials) v → InitCame (initLine n cs (s .deck)) (went (held 2 (h .vars) (h .initials + 1) (h .equations) (h .used) (h .last) (h .covered) 0)) out
+      unfolding initLine
+      init-fine out e f i j g t k u m q =
+          let d : Deck = s .deck in
+          let w : not (inside v (d .vars)) ≡ false = ap not (judged e k) ∙ u in
+          let l : length (d .inits) + 1 ≤ 64 = omega (arith, m, ap (λ (y : Held). y .initials) e) in
+          let z : initLine n cs d ≡ Got (record { due = DueAny; deck = record { vars = d .vars; inits = d .inits ++ (v ∷ []); equations = d .equations; property = d .property } }) = simp (whole-number-some 1 n 8 cs x v i j, known e f g ∙ t, w, le-ltb 64 (length (d .inits) + 1) l, initLine) in
+          let long : h .initials + 1 ≡ length (d .inits ++ (v ∷ [])) = omega (arith, ap (λ (y : Held). y .initials) e, length-append (d .inits) (v ∷ [])) in
+          subst (λ (o : Outcome Sofar). InitCame o (went (held 2 (h .vars) (h .initials + 1) (h .equations) (h .used) (h .last) (h .covered) 0)) out) (sym z)
+          (record {
+            line-is = ap (λ (y : ℕ). went (held 2 (h .vars) y (h .equations) (h .used) (h .last) (h .covered) 0)) long ∙ ap (λ (y : Held). went (held 2 (y .vars) (length (d .inits ++ (v ∷ []))) (y .equations) (y .used) (y .last) (y .covered) 0)) e;
+            inits-are = q ∙ ap (λ (y : List ℕ). set y (h .initials) v) f ∙ ap (λ (y : ℕ). set (padded 64 (d .inits)) y v) (ap (λ (y : Held). y .initials) e) ∙ padded-snoc 64 (d .inits) v (omega (arith, l));
+          })
+
+-- ---- expressions
+
+pub expression-none : (line : List ℕ) (at : ℕ) (r : ExprRead) (a : Answer) → at ≤ length line → r ≡ exprOf (Refused a) → at + 2 * r .nodes ≤ length line
+expression-none line at r a h q = omega (arith, ap (λ (k : ExprRead). k .nodes) q)
+
+module _ (line : List ℕ) (at n : ℕ) (e : Step) where
+  abbrev pub Read : Type 0
+  Read = e ≡ stepOf (length line) (readExpr 32 (drop at line))
+
+  pub expression-deep : (r : ExprRead) → Read → e .stop ≡ 2 → r ≡ exprOf (Refused (TooDeep n)) → r ≡ exprOf (wholeExpr n (drop at line))
+  unfolding wholeExpr
+  expression-deep r p q f = f ∙ ap exprOf (sym (go (readExpr 32 (drop at line)) refl p))
+    where
+      go : (x : Reading) → readExpr 32 (drop at line) ≡ x → e ≡ stepOf (length line) x → wholeExpr n (drop at line) ≡ Refused (TooDeep n)
+      go (Whole y cs) i j = absurd (omega (arith, q, ap (λ (z : Step). z .stop) j))
+      go (Wrong cs) i j = absurd (omega (arith, q, ap (λ (z : Step). z .stop) j))
+      go (Deep cs) i j = simp (i, wholeExpr)
+
+  pub expression-wrong : (r : ExprRead) → Read → (e .stop ≡ 2 → ⊥) → (e .stop ≡ 0 → ⊥) → r ≡ exprOf (Refused (BadFrame 1 n)) → r ≡ exprOf (wholeExpr n (drop at line))
+  unfolding wholeExpr
+  expression-wrong r p q m f = f ∙ ap exprOf (sym (go (readExpr 32 (drop at line)) refl p))
+    where
+      go : (x : Reading) → readExpr 32 (drop at line) ≡ x → e ≡ stepOf (length line) x → wholeExpr n (drop at line) ≡ Refused (BadFrame 1 n)
+      go (Whole y cs) i j = absurd (m (ap (λ (z : Step). z .stop) j))
+      go (Wrong cs) i j = simp (i, wholeExpr)
+      go (Deep cs) i j = absurd (q (ap (λ (z : Step). z .stop) j))
+
+  pub expression-behind : (r : ExprRead) → at ≤ length line → Read → e .stop ≡ 0 → (e .next ≡ length line → ⊥) → r ≡ exprOf (Refused (BadFrame 1 n)) → r ≡ exprOf (wholeExpr n (drop at line))
+  unfolding wholeExpr
+  expression-behind r h p q m f =
+      let w = whole-when (length line) e (readExpr 32 (drop at line)) p q in
+      let g = whole-next line at 32 e (w .0) (w .1) h p (w .2) in
+      f ∙ ap exprOf (sym (go (w .0) (w .1) (w .2) (ap (λ (l : List ℕ). length l) (g .2) ∙ length-drop (e .next) line) (g .1)))
+    where
+      go : (y : Expr) (cs : List ℕ) → readExpr 32 (drop at line) ≡ Whole y cs → length cs ≡ length line - e .next → e .next ≤ length line → wholeExpr n (drop at line) ≡ Refused (BadFrame 1 n)
+      go y [] i j k = absurd (m (omega (arith, j, k)))
+      go y (c ∷ cs) i j k = simp (i, wholeExpr)
+
+  pub expression-fine : at ≤ length line → Read → e .stop ≡ 0 → e .next ≡ length line → record { fine = true; answer = Fine; nodes = e .nodes; vars = e .vars; temporal = e .temporal } ≡ exprOf (wholeExpr n (drop at line))
+  unfolding wholeExpr
+  expression-fine h p q m =
+      let w = whole-when (length line) e (readExpr 32 (drop at line)) p q in
+      let g = whole-next line at 32 e (w .0) (w .1) h p (w .2) in
+      ap (λ (y : Step). record { fine = true; answer = Fine; nodes = y .nodes; vars = y .vars; temporal = y .temporal }) (p ∙ ap (stepOf (length line)) (w .2))
+      ∙ ap exprOf (sym (go (w .0) (w .1) (w .2) (ap (λ (l : List ℕ). length l) (g .2) ∙ length-drop (e .next) line)))
+    where
+      go : (y : Expr) (cs : List ℕ) → readExpr 32 (drop at line) ≡ Whole y cs → length cs ≡ length line - e .next → wholeExpr n (drop at line) ≡ Got y
+      go y [] i j = simp (i, wholeExpr)
+      go y (c ∷ cs) i j = absurd (omega (arith, j, m))
+
+-- An expression that fills the line gives its code.
+pub filled : (n : ℕ) (cs : List ℕ) (e : Expr) → wholeExpr n cs ≡ Got e → nodesOf (nodes e) cs ≡ code e
+unfolding wholeExpr
+filled n cs e q = go (readExpr 32 cs) refl
+  where
+    go : (x : Reading) → readExpr 32 cs ≡ x → nodesOf (nodes e) cs ≡ code e
+    go (Whole y []) i = let z : Got y ≡ Got e = sym (simp (i, wholeExpr)) ∙ q in let w : y ≡ e = cc in subst (λ (k : Expr). nodesOf (nodes k) cs ≡ code k) w (whole-spans 32 cs y [] i .code-is)
+    go (Whole y (c ∷ ds)) i = let z : Refused (BadFrame 1 n) ≡ Got e = sym (simp (i, wholeExpr)) ∙ q in cc
+    go (Wrong ds) i = let z : Refused (BadFrame 1 n) ≡ Got e = sym (simp (i, wholeExpr)) ∙ q in cc
+    go (Deep ds) i = let z : Refused (TooDeep n) ≡ Got e = sym (simp (i, wholeExpr)) ∙ q in cc
+
+module _ (o : Outcome Expr) (e : ExprRead) where
+  expr-stopped : e ≡ exprOf o → not (e .fine) ≡ true → o ≡ Refused (e .answer)
+  expr-stopped p q = go o p
+    where
+      go : (x : Outcome Expr) → e ≡ exprOf x → x ≡ Refused (e .answer)
+      go (Got y) i = let z : false ≡ true = ap (λ (k : ExprRead). not (k .fine)) (sym i) ∙ q in cc
+      go (Refused a) i = ap (λ (k : ExprRead). Refused (k .answer)) (sym i)
+
+  expr-got : e ≡ exprOf o → not (e .fine) ≡ false → (y : Expr) × (o ≡ Got y) × (e .nodes ≡ nodes y) × (e .vars ≡ written y) × (e .temporal ≡ temporal y)
+  expr-got p q = go o p
+    where
+      go : (x : Outcome Expr) → e ≡ exprOf x → (y : Expr) × (x ≡ Got y) × (e .nodes ≡ nodes y) × (e .vars ≡ written y) × (e .temporal ≡ temporal y)
+      go (Got y) i = (y, refl, ap (λ (k : ExprRead). k .nodes) i, ap (λ (k : ExprRead). k .vars) i, ap (λ (k : ExprRead). k .temporal) i)
+      go (Refused a) i = let z : true ≡ false = ap (λ (k : ExprRead). not (k .fine)) (sym i) ∙ q in let w : _≡_ {A = ℕ} 0 1 = cc in absurd (omega arith)
+
+-- ---- general: zeros
+
+drop-zeros : (n k : ℕ) → drop {A = ℕ} k (replicate n 0) ≡ replicate (n - k) 0
+drop-zeros zero k = let e : 0 ≡ 0 - k = omega arith in drop-nil k ∙ ap (λ (m : ℕ). replicate m 0) e
+drop-zeros (suc n) zero = let e : suc n ≡ suc n - 0 = omega arith in ap (λ (m : ℕ). replicate m 0) e
+drop-zeros (suc n) (suc k) = let e : n - k ≡ suc n - suc k = omega arith in drop-zeros n k ∙ ap (λ (m : ℕ). replicate m 0) e
+
+-- A list put behind what a row holds.
+pub padded-append : (n : ℕ) (l vs : List ℕ) → splice (length l) vs (padded n l) ≡ padded n (l ++ vs)
+padded-append n l vs =
+    let less : n - length l - length vs ≡ n - length (l ++ vs) = omega (arith, length-append l vs) in
+    ap (λ (m : List ℕ). m ++ (vs ++ drop (length l + length vs) (padded n l))) (take-append-seam l (replicate (n - length l) 0))
+    ∙ ap (λ (m : List ℕ). l ++ (vs ++ m)) (drop-append-add l (replicate (n - length l) 0) (length vs) ∙ drop-zeros (n - length l) (length vs) ∙ ap (λ (k : ℕ). replicate k 0) less)
+    ∙ sym (append-assoc l vs (replicate (n - length (l ++ vs)) 0))
+
+-- ---- 04
+
+property-refused-as : (o : Outcome Sofar) (a : Answer) (r : LineRead) (l : List ℕ) → o ≡ Refused a → r ≡ lineOf (Refused a) → PropertyCame o r l
+property-refused-as o a r l e q = subst (λ (x : Outcome Sofar). PropertyCame x r l) (sym e) (record { line-is = q; property-is = tt })
+
+module _ (cs : List ℕ) (n : ℕ) (h : Held) (e : ExprRead) (s : Sofar) where
+  pub property-refused : (r : LineRead) (out : List ℕ) → e ≡ exprOf (wholeExpr n cs) → not (e .fine) ≡ true → r ≡ lineOf (Refused (e .answer)) → PropertyCame (propertyLine n cs (s .deck)) r out
+  unfolding propertyLine
+  property-refused r out p q f =
+      let z : propertyLine n cs (s .deck) ≡ Refused (e .answer) = simp (expr-stopped (wholeExpr n cs) e p q, propertyLine) in
+      property-refused-as (propertyLine n cs (s .deck)) (e .answer) r out z f
+
+  module _ (b : Bool) where
+    within : (y : Expr) → h ≡ heldOf s → e .vars ≡ written y → b ≡ inside (e .vars) (h .vars) → inside (written y) (s .deck .vars) ≡ b
+    within y i v g = sym (g ∙ ap (λ (k : ℕ). inside k (h .vars)) v ∙ ap (λ (k : Held). inside (written y) (k .vars)) i)
+
+    pub property-outside : (r : LineRead) (out : List ℕ) → h ≡ heldOf s → e ≡ exprOf (wholeExpr n cs) → not (e .fine) ≡ false → b ≡ inside (e .vars) (h .vars) → not b ≡ true → r ≡ lineOf (Refused (Outside 1 n)) → PropertyCame (propertyLine n cs (s .deck)) r out
+    unfolding propertyLine
+    property-outside r out i p q g u f =
+        let y = expr-got (wholeExpr n cs) e p q in
+        let w : not (inside (written (y .0)) (s .deck .vars)) ≡ true = ap not (within (y .0) i (y .3) g) ∙ u in
+        let z : propertyLine n cs (s .deck) ≡ Refused (Outside 1 n) = simp (y .1, w, propertyLine) in
+        property-refused-as (propertyLine n cs (s .deck)) (Outside 1 n) r out z f
+
+    pub property-many : (r : LineRead) (out : List ℕ) → h ≡ heldOf s → e ≡ exprOf (wholeExpr n cs) → not (e .fine) ≡ false → b ≡ inside (e .vars) (h .vars) → not b ≡ false → 128 < e .nodes → r ≡ lineOf (Refused (ManyNodes n)) → PropertyCame (propertyLine n cs (s .deck)) r out
+    unfolding propertyLine
+    property-many r out i p q g u m f =
+        let y = expr-got (wholeExpr n cs) e p q in
+        let w : not (inside (written (y .0)) (s .deck .vars)) ≡ false = ap not (within (y .0) i (y .3) g) ∙ u in
+        let l : 128 < nodes (y .0) = omega (arith, m, y .2) in
+        let z : propertyLine n cs (s .deck) ≡ Refused (ManyNodes n) = simp (y .1, w, lt-ltb 128 (nodes (y .0)) l, propertyLine) in
+        property-refused-as (propertyLine n cs (s .deck)) (ManyNodes n) r out z f
+
+    pub property-fine : (property out : List ℕ) → h ≡ heldOf s → property ≡ replicate 128 0 → e ≡ exprOf (wholeExpr n cs) → not (e .fine) ≡ false → b ≡ inside (e .vars) (h .vars) → not b ≡ false → e .nodes ≤ 128 → out ≡ splice 0 (nodesOf (e .nodes) cs) property → PropertyCame (propertyLine n cs (s .deck)) (went (held 4 (h .vars) (h .initials) (h .equations) (h .used) (h .last) (h .covered) (e .nodes))) out
+    unfolding propertyLine
+    property-fine property out i j p q g u m f =
+        let d : Deck = s .deck in
+        let y = expr-got (wholeExpr n cs) e p q in
+        let w : not (inside (written (y .0)) (d .vars)) ≡ false = ap not (within (y .0) i (y .3) g) ∙ u in
+        let l : nodes (y .0) ≤ 128 = omega (arith, m, y .2) in
+        let z : propertyLine n cs d ≡ Got (record { due = DueCount; deck = record { vars = d .vars; inits = d .inits; equations = d .equations; property = y .0 } }) = simp (y .1, w, le-ltb 128 (nodes (y .0)) l, propertyLine) in
+        let stored : nodesOf (e .nodes) cs ≡ code (y .0) = ap (λ (k : ℕ). nodesOf k cs) (y .2) ∙ filled n cs (y .0) (y .1) in
+        subst (λ (o : Outcome Sofar). PropertyCame o (went (held 4 (h .vars) (h .initials) (h .equations) (h .used) (h .last) (h .covered) (e .nodes))) out) (sym z)
+        (record {
+          line-is = ap (λ (k : ℕ). went (held 4 (h .vars) (h .initials) (h .equations) (h .used) (h .last) (h .covered) k)) (y .2) ∙ ap (λ (k : Held). went (held 4 (k .vars) (k .initials) (k .equations) (k .used) (k .last) (k .covered) (nodes (y .0)))) i;
+          property-is = f ∙ ap (λ (k : List ℕ). splice 0 k property) stored ∙ ap (splice 0 (code (y .0))) (j ∙ sym (padded-nil 128)) ∙ padded-append 128 [] (code (y .0));
+        })
+
+-- ---- general: sets
+
+union-assoc : (s t u : ℕ) → union (union s t) u ≡ union s (union t u)
+union-assoc s t u = ext (union (union s t) u) (union s (union t u)) (λ i. omega (arith, bit-union (union s t) u i, bit-union s t i, bit-union s (union t u) i, bit-union t u i))
+
+union-nothing : (s : ℕ) → union s 0 ≡ union 0 s
+union-nothing s = ext (union s 0) (union 0 s) (λ i. omega (arith, bit-union s 0 i, bit-union 0 s i))
+
+-- ---- one equation more
+
+module _ (q : Equation) where
+  total-more : (qs : List Equation) → totalNodes (qs ++ (q ∷ [])) ≡ totalNodes qs + nodes (q .right)
+  unfolding totalNodes
+  total-more [] = omega arith
+  total-more (x ∷ xs) = omega (arith, total-more xs)
+
+  last-more : (qs : List Equation) → lastLeft (qs ++ (q ∷ [])) ≡ q .left
+  unfolding lastLeft
+  last-more [] = refl
+  last-more (x ∷ []) = refl
+  last-more (x ∷ y ∷ xs) = last-more (y ∷ xs)
+
+  left-more : (qs : List Equation) → leftSet (qs ++ (q ∷ [])) ≡ union (leftSet qs) (only (q .left))
+  unfolding leftSet
+  left-more [] = union-nothing (only (q .left))
+  left-more (x ∷ xs) = ap (union (only (x .left))) (left-more xs) ∙ sym (union-assoc (only (x .left)) (leftSet xs) (only (q .left)))
+
+  lefts-more : (qs : List Equation) → leftsOf (qs ++ (q ∷ [])) ≡ leftsOf qs ++ (q .left ∷ [])
+  lefts-more [] = refl
+  lefts-more (x ∷ xs) = ap (λ (l : List ℕ). x .left ∷ l) (lefts-more xs)
+
+  ends-more : (n : ℕ) (qs : List Equation) → endsOf n (qs ++ (q ∷ [])) ≡ endsOf n qs ++ ((n + totalNodes qs + nodes (q .right)) ∷ [])
+  unfolding endsOf totalNodes
+  ends-more n [] = let e : n + nodes (q .right) ≡ n + 0 + nodes (q .right) = omega arith in ap (λ (k : ℕ). k ∷ []) e
+  ends-more n (x ∷ xs) =
+      let e : n + nodes (x .right) + totalNodes xs + nodes (q .right) ≡ n + (nodes (x .right) + totalNodes xs) + nodes (q .right) = omega arith in
+      ap (λ (l : List ℕ). (n + nodes (x .right)) ∷ l) (ends-more (n + nodes (x .right)) xs ∙ ap (λ (k : ℕ). endsOf (n + nodes (x .right)) xs ++ (k ∷ [])) e)
+
+  codes-more : (qs : List Equation) → codes (qs ++ (q ∷ [])) ≡ codes qs ++ code (q .right)
+  unfolding codes
+  codes-more [] = append-nil (code (q .right))
+  codes-more (x ∷ xs) = ap (λ (l : List ℕ). code (x .right) ++ l) (codes-more xs) ∙ sym (append-assoc (code (x .right)) (codes xs) (code (q .right)))
+
+length-lefts : (qs : List Equation) → length (leftsOf qs) ≡ length qs
+length-lefts [] = refl
+length-lefts (x ∷ xs) = ap suc (length-lefts xs)
+
+length-ends : (n : ℕ) (qs : List Equation) → length (endsOf n qs) ≡ length qs
+unfolding endsOf
+length-ends n [] = refl
+length-ends n (x ∷ xs) = ap suc (length-ends (n + nodes (x .right)) xs)
+
+length-codes : (qs : List Equation) → length (codes qs) ≡ totalNodes qs
+unfolding codes totalNodes
+length-codes [] = refl
+length-codes (x ∷ xs) = omega (arith, length-append (code (x .right)) (codes xs), length-code (x .right), length-codes xs)
+
+-- ---- 03 judged
+
+equation-is : (n : ℕ) (cs : List ℕ) (d : Deck) → equationLine n cs d ≡ refuse (not (ltb (kindOf cs) 64)) (BadFrame 1 n) (refuse (ltb (kindOf cs) (lastLeft (d .equations))) (BadFrame 1 n) (afterwards (wholeExpr n (drop 2 cs)) (λ e. withEquation n d (record { left = kindOf cs; right = e }))))
+unfolding equationLine kindOf
+equation-is n [] d = refl
+equation-is n (c ∷ []) d = refl
+equation-is n (c ∷ e ∷ cs) d = refl
+
+module _ (line : List ℕ) (n v : ℕ) (h : Held) (s : Sofar) where
+  high : v ≡ kindOf (drop 2 line) → 64 ≤ v → equationLine n (drop 2 line) (s .deck) ≡ Refused (BadFrame 1 n)
+  high e k = equation-is n (drop 2 line) (s .deck) ∙ simp (le-ltb (kindOf (drop 2 line)) 64 (rw (← e) k))
+
+  low : h ≡ heldOf s → v ≡ kindOf (drop 2 line) → v < 64 → v < h .last → equationLine n (drop 2 line) (s .deck) ≡ Refused (BadFrame 1 n)
+  low i e k l =
+      let w : kindOf (drop 2 line) < lastLeft (s .deck .equations) = omega (arith, l, e, ap (λ (y : Held). y .last) i) in
+      equation-is n (drop 2 line) (s .deck) ∙ simp (lt-ltb (kindOf (drop 2 line)) 64 (rw (← e) k), lt-ltb (kindOf (drop 2 line)) (lastLeft (s .deck .equations)) w)
+
+  rises : h ≡ heldOf s → v ≡ kindOf (drop 2 line) → v < 64 → h .last ≤ v → equationLine n (drop 2 line) (s .deck) ≡ afterwards (wholeExpr n (drop 4 line)) (λ e. withEquation n (s .deck) (record { left = v; right = e }))
+  rises i e k l =
+      let w : lastLeft (s .deck .equations) ≤ kindOf (drop 2 line) = omega (arith, l, e, ap (λ (y : Held). y .last) i) in
+      let z : equationLine n (drop 2 line) (s .deck) ≡ afterwards (wholeExpr n (drop 2 (drop 2 line))) (λ e. withEquation n (s .deck) (record { left = kindOf (drop 2 line); right = e })) =
+      equation-is n (drop 2 line) (s .deck) ∙ simp (lt-ltb (kindOf (drop 2 line)) 64 (rw (← e) k), le-ltb (kindOf (drop 2 line)) (lastLeft (s .deck .equations)) w)
+      in
+      z
+      ∙ ap (λ (l : List ℕ). afterwards (wholeExpr n l) (λ e. withEquation n (s .deck) (record { left = kindOf (drop 2 line); right = e }))) (drop-drop 2 2 line)
+      ∙ ap (λ (k : ℕ). afterwards (wholeExpr n (drop 4 line)) (λ e. withEquation n (s .deck) (record { left = k; right = e }))) (sym e)
+
+  pub equation-high : (r : LineRead) → v ≡ kindOf (drop 2 line) → 64 ≤ v → r ≡ lineOf (Refused (BadFrame 1 n)) → r ≡ lineOf (equationLine n (drop 2 line) (s .deck))
+  equation-high r e k q = q ∙ ap lineOf (sym (high e k))
+
+  pub equation-falls : (r : LineRead) → h ≡ heldOf s → v ≡ kindOf (drop 2 line) → v < 64 → v < h .last → r ≡ lineOf (Refused (BadFrame 1 n)) → r ≡ lineOf (equationLine n (drop 2 line) (s .deck))
+  equation-falls r i e k l q = q ∙ ap lineOf (sym (low i e k l))
+
+  module _ (e : ExprRead) where
+    pub equation-refused : (r : LineRead) → h ≡ heldOf s → v ≡ kindOf (drop 2 line) → v < 64 → h .last ≤ v → e ≡ exprOf (wholeExpr n (drop 4 line)) → not (e .fine) ≡ true → r ≡ lineOf (Refused (e .answer)) → r ≡ lineOf (equationLine n (drop 2 line) (s .deck))
+    equation-refused r i p k l x y q = q ∙ ap lineOf (sym (rises i p k l ∙ ap (λ (o : Outcome Expr). afterwards o (λ e. withEquation n (s .deck) (record { left = v; right = e }))) (expr-stopped (wholeExpr n (drop 4 line)) e x y)))
+
+    -- What 9, 10, 13 and 14 are asked of.
+    record Asked (d : Deck) (m g : Bool) : Type 0 where
+      pub its : Expr
+      pub read-as : wholeExpr n (drop 4 line) ≡ Got its
+      pub line-as : equationLine n (drop 2 line) d ≡ withEquation n d (record { left = v; right = its })
+      pub nodes-as : e .nodes ≡ nodes its
+      pub left-as : has (d .vars) v ≡ m
+      pub vars-as : inside (written its) (d .vars) ≡ g
+      pub temporal-as : temporal its ≡ e .temporal
+
+    asked : (m g : Bool) → h ≡ heldOf s → v ≡ kindOf (drop 2 line) → v < 64 → h .last ≤ v → e ≡ exprOf (wholeExpr n (drop 4 line)) → not (e .fine) ≡ false → m ≡ has (h .vars) v → g ≡ inside (e .vars) (h .vars) → Asked (s .deck) m g
+    asked m g i p k l x y a b =
+        let w = expr-got (wholeExpr n (drop 4 line)) e x y in
+        record {
+          its = w .0;
+          read-as = w .1;
+          line-as = rises i p k l ∙ ap (λ (o : Outcome Expr). afterwards o (λ e. withEquation n (s .deck) (record { left = v; right = e }))) (w .1);
+          nodes-as = w .2;
+          left-as = sym (a ∙ ap (λ (y : Held). has (y .vars) v) i);
+          vars-as = sym (b ∙ ap (λ (k : ℕ). inside k (h .vars)) (w .3) ∙ ap (λ (y : Held). inside (written (w .0)) (y .vars)) i);
+          temporal-as = sym (w .4);
+        }
+
+    module _ (m g : Bool) (w : Asked (s .deck) m g) where
+      left-out : not m ≡ true → equationLine n (drop 2 line) (s .deck) ≡ Refused (Outside 1 n)
+      unfolding withEquation
+      left-out a = w .line-as ∙ simp (ap not (w .left-as) ∙ a, withEquation)
+
+      vars-out : not m ≡ false → not g ≡ true → equationLine n (drop 2 line) (s .deck) ≡ Refused (Outside 1 n)
+      unfolding withEquation
+      vars-out a b = w .line-as ∙ simp (ap not (w .left-as) ∙ a, ap not (w .vars-as) ∙ b, withEquation)
+
+      not-plain : not m ≡ false → not g ≡ false → e .temporal ≡ true → equationLine n (drop 2 line) (s .deck) ≡ Refused (Temporal n)
+      unfolding withEquation
+      not-plain a b c = w .line-as ∙ simp (ap not (w .left-as) ∙ a, ap not (w .vars-as) ∙ b, w .temporal-as ∙ c, withEquation)
+
+      too-many : not m ≡ false → not g ≡ false → e .temporal ≡ false → 256 < length (s .deck .equations) + 1 → equationLine n (drop 2 line) (s .deck) ≡ Refused (ManyEquations n)
+      unfolding withEquation
+      too-many a b c d = w .line-as ∙ simp (ap not (w .left-as) ∙ a, ap not (w .vars-as) ∙ b, w .temporal-as ∙ c, lt-ltb 256 (length (s .deck .equations) + 1) d, withEquation)
+
+      too-large : not m ≡ false → not g ≡ false → e .temporal ≡ false → length (s .deck .equations) + 1 ≤ 256 → 2048 < totalNodes (s .deck .equations) + nodes (w .its) → equationLine n (drop 2 line) (s .deck) ≡ Refused (ManyNodes n)
+      unfolding withEquation
+      too-large a b c d k = w .line-as ∙ simp (ap not (w .left-as) ∙ a, ap not (w .vars-as) ∙ b, w .temporal-as ∙ c, le-ltb 256 (length (s .deck .equations) + 1) d, lt-ltb 2048 (totalNodes (s .deck .equations) + nodes (w .its)) k, withEquation)
+
+      taken : not m ≡ false → not g ≡ false → e .temporal ≡ false → length (s .deck .equations) + 1 ≤ 256 → totalNodes (s .deck .equations) + nodes (w .its) ≤ 2048 → equationLine n (drop 2 line) (s .deck) ≡ Got (record { due = DueEquation; deck = record { vars = s .deck .vars; inits = s .deck .inits; equations = s .deck .equations ++ (record { left = v; right = w .its } ∷ []); property = s .deck .property } })
+      unfolding withEquation
+      taken a b c d k = w .line-as ∙ simp (ap not (w .left-as) ∙ a, ap not (w .vars-as) ∙ b, w .temporal-as ∙ c, le-ltb 256 (length (s .deck .equations) + 1) d, le-ltb 2048 (totalNodes (s .deck .equations) + nodes (w .its)) k, withEquation)
+
+    module _ (m : Bool) where
+      pub equation-left : (r : LineRead) → h ≡ heldOf s → v ≡ kindOf (drop 2 line) → v < 64 → h .last ≤ v → e ≡ exprOf (wholeExpr n (drop 4 line)) → not (e .fine) ≡ false → m ≡ has (h .vars) v → not m ≡ true → r ≡ lineOf (Refused (Outside 1 n)) → r ≡ lineOf (equationLine n (drop 2 line) (s .deck))
+      equation-left r i p k l x y a t q = q ∙ ap lineOf (sym (left-out m (inside (e .vars) (h .vars)) (asked m (inside (e .vars) (h .vars)) i p k l x y a refl) t))
+
+      module _ (g : Bool) where
+        pub equation-vars : (r : LineRead) → h ≡ heldOf s → v ≡ kindOf (drop 2 line) → v < 64 → h .last ≤ v → e ≡ exprOf (wholeExpr n (drop 4 line)) → not (e .fine) ≡ false → m ≡ has (h .vars) v → not m ≡ false → g ≡ inside (e .vars) (h .vars) → not g ≡ true → r ≡ lineOf (Refused (Outside 1 n)) → r ≡ lineOf (equationLine n (drop 2 line) (s .deck))
+        equation-vars r i p k l x y a t b u q = q ∙ ap lineOf (sym (vars-out m g (asked m g i p k l x y a b) t u))
+
+        pub equation-temporal : (r : LineRead) → h ≡ heldOf s → v ≡ kindOf (drop 2 line) → v < 64 → h .last ≤ v → e ≡ exprOf (wholeExpr n (drop 4 line)) → not (e .fine) ≡ false → m ≡ has (h .vars) v → not m ≡ false → g ≡ inside (e .vars) (h .vars) → not g ≡ false → e .temporal ≡ true → r ≡ lineOf (Refused (Temporal n)) → r ≡ lineOf (equationLine n (drop 2 line) (s .deck))
+        equation-temporal r i p k l x y a t b u c q = q ∙ ap lineOf (sym (not-plain m g (asked m g i p k l x y a b) t u c))
+
+        pub equation-many : (r : LineRead) → h ≡ heldOf s → v ≡ kindOf (drop 2 line) → v < 64 → h .last ≤ v → e ≡ exprOf (wholeExpr n (drop 4 line)) → not (e .fine) ≡ false → m ≡ has (h .vars) v → not m ≡ false → g ≡ inside (e .vars) (h .vars) → not g ≡ false → e .temporal ≡ false → 256 < h .equations + 1 → r ≡ lineOf (Refused (ManyEquations n)) → r ≡ lineOf (equationLine n (drop 2 line) (s .deck))
+        equation-many r i p k l x y a t b u c d q = q ∙ ap lineOf (sym (too-many m g (asked m g i p k l x y a b) t u c (omega (arith, d, ap (λ (j : Held). j .equations) i))))
+
+        pub equation-nodes : (r : LineRead) → h ≡ heldOf s → v ≡ kindOf (drop 2 line) → v < 64 → h .last ≤ v → e ≡ exprOf (wholeExpr n (drop 4 line)) → not (e .fine) ≡ false → m ≡ has (h .vars) v → not m ≡ false → g ≡ inside (e .vars) (h .vars) → not g ≡ false → e .temporal ≡ false → h .equations + 1 ≤ 256 → 2048 < h .used + e .nodes → r ≡ lineOf (Refused (ManyNodes n)) → r ≡ lineOf (equationLine n (drop 2 line) (s .deck))
+        equation-nodes r i p k l x y a t b u c d f q =
+            let w : Asked (s .deck) m g = asked m g i p k l x y a b in
+            q ∙ ap lineOf (sym (too-large m g w t u c (omega (arith, d, ap (λ (j : Held). j .equations) i)) (omega (arith, f, w .nodes-as, ap (λ (j : Held). j .used) i))))
+
+        pub equation-taken : (only-v c : ℕ) → h ≡ heldOf s → v ≡ kindOf (drop 2 line) → v < 64 → h .last ≤ v → e ≡ exprOf (wholeExpr n (drop 4 line)) → not (e .fine) ≡ false → m ≡ has (h .vars) v → not m ≡ false → g ≡ inside (e .vars) (h .vars) → not g ≡ false → e .temporal ≡ false → h .equations + 1 ≤ 256 → h .used + e .nodes ≤ 2048 → only-v ≡ only v % 2 ^ 64 → c ≡ union (h .covered) only-v → went (held 3 (h .vars) (h .initials) (h .equations + 1) (h .used + e .nodes) v c 0) ≡ lineOf (equationLine n (drop 2 line) (s .deck))
+        equation-taken only-v c i p k l x y a t b u o d f z j =
+            let w : Asked (s .deck) m g = asked m g i p k l x y a b in
+            let D : Deck = s .deck in
+            let q : Equation = record { left = v; right = w .its } in
+            let got = taken m g w t u o (omega (arith, d, ap (λ (j : Held). j .equations) i)) (omega (arith, f, w .nodes-as, ap (λ (j : Held). j .used) i)) in
+            let count : h .equations + 1 ≡ length (D .equations ++ (q ∷ [])) = omega (arith, ap (λ (j : Held). j .equations) i, length-append (D .equations) (q ∷ [])) in
+            let used : h .used + e .nodes ≡ totalNodes (D .equations ++ (q ∷ [])) = omega (arith, ap (λ (j : Held). j .used) i, w .nodes-as, total-more q (D .equations)) in
+            let last : v ≡ lastLeft (D .equations ++ (q ∷ [])) = sym (last-more q (D .equations)) in
+            let covered : c ≡ leftSet (D .equations ++ (q ∷ [])) = j ∙ ap (union (h .covered)) (only-within v only-v z k) ∙ ap (λ (y : Held). union (y .covered) (only v)) i ∙ sym (left-more q (D .equations)) in
+            ap (λ (y : ℕ). went (held 3 (h .vars) (h .initials) y (h .used + e .nodes) v c 0)) count
+            ∙ ap (λ (y : ℕ). went (held 3 (h .vars) (h .initials) (length (D .equations ++ (q ∷ []))) y v c 0)) used
+            ∙ ap (λ (y : ℕ). went (held 3 (h .vars) (h .initials) (length (D .equations ++ (q ∷ []))) (totalNodes (D .equations ++ (q ∷ []))) y c 0)) last
+            ∙ ap (λ (y : ℕ). went (held 3 (h .vars) (h .initials) (length (D .equations ++ (q ∷ []))) (totalNodes (D .equations ++ (q ∷ []))) (lastLeft (D .equations ++ (q ∷ []))) y 0)) covered
+            ∙ ap (λ (y : Held). went (held 3 (y .vars) (y .initials) (length (D .equations ++ (q ∷ []))) (totalNodes (D .equations ++ (q ∷ []))) (lastLeft (D .equations ++ (q ∷ []))) (leftSet (D .equations ++ (q ∷ []))) 0)) i
+            ∙ ap lineOf (sym got)
+
+-- A line refused has no room to show.
+pub no-room : (line : List ℕ) (h : Held) (r : LineRead) (a : Answer) → r ≡ lineOf (Refused a) → r .fine ≡ true → Room line h r
+no-room line h r a e q = let z : false ≡ true = sym (ap (λ (k : LineRead). k .fine) e) ∙ q in let w : _≡_ {A = ℕ} 0 1 = cc in absurd (omega arith)
+
+-- A variable's pair stands within the line.
+pub variable-within : (line : List ℕ) (v : ℕ) → v ≡ kindOf (drop 2 line) → v < 64 → 4 ≤ length line
+variable-within line v e h = pair-inside line 2 v e (omega arith)
+
+-- A line that passed 13 and 14 has room.
+pub has-room : (line : List ℕ) (h : Held) (e : ExprRead) (v c : ℕ) → v < 64 → h .equations + 1 ≤ 256 → h .used + e .nodes ≤ 2048 → 4 + 2 * e .nodes ≤ length line → Room line h (went (held 3 (h .vars) (h .initials) (h .equations + 1) (h .used + e .nodes) v c 0))
+has-room line h e v c p q m w = record { few = omega arith; most = m; grows = omega arith; within = omega arith; left-fits = p }
+
+-- ---- 03 stored
+
+refuse-got : {A : Type 0} (b : Bool) (a : Answer) (o : Outcome A) (t : A) → refuse b a o ≡ Got t → o ≡ Got t
+refuse-got true a o t e = let z : Refused a ≡ Got t = e in cc
+refuse-got false a o t e = e
+
+afterwards-got : {A B : Type 0} (o : Outcome A) (f : A → Outcome B) (t : B) → afterwards o f ≡ Got t → (x : A) × (o ≡ Got x) × (f x ≡ Got t)
+afterwards-got (Got x) f t e = (x, refl, e)
+afterwards-got (Refused a) f t e = let z : Refused a ≡ Got t = e in let w : _≡_ {A = ℕ} 0 1 = cc in absurd (omega arith)
+
+with-got : (n : ℕ) (d : Deck) (q : Equation) (t : Sofar) → withEquation n d q ≡ Got t → t .deck .equations ≡ d .equations ++ (q ∷ [])
+unfolding withEquation
+with-got n d q t e =
+    let last : Sofar = record { due = DueEquation; deck = record { vars = d .vars; inits = d .inits; equations = d .equations ++ (q ∷ []); property = d .property } } in
+    let r4 : Outcome Sofar = refuse (ltb 2048 (totalNodes (d .equations) + nodes (q .right))) (ManyNodes n) (Got last) in
+    let r3 : Outcome Sofar = refuse (ltb 256 (length (d .equations) + 1)) (ManyEquations n) r4 in
+    let r2 : Outcome Sofar = refuse (temporal (q .right)) (Temporal n) r3 in
+    let r1 : Outcome Sofar = refuse (not (inside (written (q .right)) (d .vars))) (Outside 1 n) r2 in
+    let e1 : r1 ≡ Got t = refuse-got (not (has (d .vars) (q .left))) (Outside 1 n) r1 t e in
+    let e2 : r2 ≡ Got t = refuse-got (not (inside (written (q .right)) (d .vars))) (Outside 1 n) r2 t e1 in
+    let e3 : r3 ≡ Got t = refuse-got (temporal (q .right)) (Temporal n) r3 t e2 in
+    let e4 : r4 ≡ Got t = refuse-got (ltb 256 (length (d .equations) + 1)) (ManyEquations n) r4 t e3 in
+    let e5 : Got last ≡ Got t = refuse-got (ltb 2048 (totalNodes (d .equations) + nodes (q .right))) (ManyNodes n) (Got last) t e4 in
+    let e6 : last ≡ t = cc in
+    sym (ap (λ (x : Sofar). x .deck .equations) e6)
+
+-- A 03 that was taken adds its equation behind the others.
+equation-got : (n : ℕ) (cs : List ℕ) (d : Deck) (t : Sofar) → equationLine n cs d ≡ Got t → (e : Expr) × (wholeExpr n (drop 2 cs) ≡ Got e) × (t .deck .equations ≡ d .equations ++ (record { left = kindOf cs; right = e } ∷ []))
+equation-got n cs d t q =
+    let f : Expr → Outcome Sofar = λ e. withEquation n d (record { left = kindOf cs; right = e }) in
+    let inner : Outcome Sofar = refuse (ltb (kindOf cs) (lastLeft (d .equations))) (BadFrame 1 n) (afterwards (wholeExpr n (drop 2 cs)) f) in
+    let q1 : inner ≡ Got t = refuse-got (not (ltb (kindOf cs) 64)) (BadFrame 1 n) inner t (sym (equation-is n cs d) ∙ q) in
+    let q2 : afterwards (wholeExpr n (drop 2 cs)) f ≡ Got t = refuse-got (ltb (kindOf cs) (lastLeft (d .equations))) (BadFrame 1 n) (afterwards (wholeExpr n (drop 2 cs)) f) t q1 in
+    let w = afterwards-got (wholeExpr n (drop 2 cs)) f t q2 in
+    (w .0, w .1, with-got n d (record { left = kindOf cs; right = w .0 }) t (w .2))
+
+-- The arrays with one equation more.
+equations-more : (qs : List Equation) (q : Equation) (lefts ends nodes′ : List ℕ) → length qs < 256 → HoldsEquations qs lefts ends nodes′ (length qs)
+    → HoldsEquations (qs ++ (q ∷ [])) (set lefts (length qs) (q .left)) (set ends (length qs) (totalNodes qs + nodes (q .right))) (splice (totalNodes qs) (code (q .right)) nodes′) (length (qs ++ (q ∷ [])))
+equations-more qs q lefts ends nodes′ k h =
+    record {
+      lefts-are =
+          ap (λ (l : List ℕ). set l (length qs) (q .left)) (h .lefts-are)
+          ∙ ap (λ (i : ℕ). set (padded 256 (leftsOf qs)) i (q .left)) (sym (length-lefts qs))
+          ∙ padded-snoc 256 (leftsOf qs) (q .left) (omega (arith, k, length-lefts qs))
+          ∙ ap (padded 256) (sym (lefts-more q qs));
+      ends-are =
+          ap (λ (l : List ℕ). set l (length qs) (totalNodes qs + nodes (q .right))) (h .ends-are)
+          ∙ ap (λ (i : ℕ). set (padded 256 (endsOf 0 qs)) i (totalNodes qs + nodes (q .right))) (sym (length-ends 0 qs))
+          ∙ padded-snoc 256 (endsOf 0 qs) (totalNodes qs + nodes (q .right)) (omega (arith, k, length-ends 0 qs))
+          ∙ ap (padded 256) (ap (λ (i : ℕ). endsOf 0 qs ++ (i ∷ [])) from-zero ∙ sym (ends-more q 0 qs));
+      nodes-are =
+          ap (splice (totalNodes qs) (code (q .right))) (h .nodes-are)
+          ∙ ap (λ (i : ℕ). splice i (code (q .right)) (padded 2048 (codes qs))) (sym (length-codes qs))
+          ∙ padded-append 2048 (codes qs) (code (q .right))
+          ∙ ap (padded 2048) (sym (codes-more q qs));
+      count-is = refl;
+    }
+  where
+    from-zero : totalNodes qs + nodes (q .right) ≡ 0 + totalNodes qs + nodes (q .right)
+    from-zero = omega arith
+
+module _ (line : List ℕ) (n : ℕ) (h : Held) (r : LineRead) (s : Sofar) where
+  -- What the judge of 03 promises.
+  abbrev pub Judged : Type 0
+  Judged = (s : Sofar) → h ≡ heldOf s → r ≡ lineOf (equationLine n (drop 2 line) (s .deck))
+
+  pub equation-stopped : (lefts ends nodes′ : List ℕ) → h ≡ heldOf s → Judged → not (r .fine) ≡ true → EquationCame (equationLine n (drop 2 line) (s .deck)) r lefts ends nodes′
+  equation-stopped lefts ends nodes′ i j f = go (equationLine n (drop 2 line) (s .deck)) (j s i)
+    where
+      go : (o : Outcome Sofar) → r ≡ lineOf o → EquationCame o r lefts ends nodes′
+      go (Got t) e = let z : false ≡ true = ap (λ (k : LineRead). not (k .fine)) (sym e) ∙ f in let w : _≡_ {A = ℕ} 0 1 = cc in absurd (omega arith)
+      go (Refused a) e = record { line-is = e; equations-are = tt }
+
+  pub equation-stored : (lefts ends nodes′ lefts″ ends″ nodes″ : List ℕ) → h ≡ heldOf s → HoldsEquations (s .deck .equations) lefts ends nodes′ (length (s .deck .equations)) → Judged → h .equations < 256 → not (r .fine) ≡ false → lefts″ ≡ set lefts (h .equations) (r .held .last) → ends″ ≡ set ends (h .equations) (r .held .used) → nodes″ ≡ splice (h .used) (nodesOf (r .held .used - h .used) (drop 4 line)) nodes′ → EquationCame (equationLine n (drop 2 line) (s .deck)) r lefts″ ends″ nodes″
+  equation-stored lefts ends nodes′ lefts″ ends″ nodes″ i a j k f p q m = go (equationLine n (drop 2 line) (s .deck)) refl (j s i)
+    where
+      go : (o : Outcome Sofar) → equationLine n (drop 2 line) (s .deck) ≡ o → r ≡ lineOf o → EquationCame o r lefts″ ends″ nodes″
+      go (Refused b) g e = let z : true ≡ false = ap (λ (k : LineRead). not (k .fine)) (sym e) ∙ f in let w : _≡_ {A = ℕ} 0 1 = cc in absurd (omega arith)
+      go (Got t) g e =
+          let qs : List Equation = s .deck .equations in
+          let w = equation-got n (drop 2 line) (s .deck) t g in
+          let x : Equation = record { left = kindOf (drop 2 line); right = w .0 } in
+          let fill : wholeExpr n (drop 4 line) ≡ Got (w .0) = ap (wholeExpr n) (sym (drop-drop 2 2 line)) ∙ w .1 in
+          let count : h .equations ≡ length qs = ap (λ (y : Held). y .equations) i in
+          let before : h .used ≡ totalNodes qs = ap (λ (y : Held). y .used) i in
+          let last : r .held .last ≡ x .left = ap (λ (y : LineRead). y .held .last) e ∙ ap lastLeft (w .2) ∙ last-more x qs in
+          let used : r .held .used ≡ totalNodes qs + nodes (w .0) = ap (λ (y : LineRead). y .held .used) e ∙ ap totalNodes (w .2) ∙ total-more x qs in
+          let own : r .held .used - h .used ≡ nodes (w .0) = omega (arith, used, before) in
+          let more = equations-more qs x lefts ends nodes′ (omega (arith, k, count)) a in
+          let pl : lefts″ ≡ set lefts (length qs) (x .left) = p ∙ ap (λ (y : ℕ). set lefts y (r .held .last)) count ∙ ap (set lefts (length qs)) last in
+          let pe : ends″ ≡ set ends (length qs) (totalNodes qs + nodes (w .0)) = q ∙ ap (λ (y : ℕ). set ends y (r .held .used)) count ∙ ap (set ends (length qs)) used in
+          let pn : nodes″ ≡ splice (totalNodes qs) (code (w .0)) nodes′ = m ∙ ap (λ (y : ℕ). splice y (nodesOf (r .held .used - h .used) (drop 4 line)) nodes′) before ∙ ap (λ (y : List ℕ). splice (totalNodes qs) y nodes′) (ap (λ (y : ℕ). nodesOf y (drop 4 line)) own ∙ filled n (drop 4 line) (w .0) fill) in
+          record {
+            line-is = e;
+            equations-are =
+                subst (λ (y : List Equation). HoldsEquations y lefts″ ends″ nodes″ (length y)) (sym (w .2))
+                (record { lefts-are = pl ∙ more .lefts-are; ends-are = pe ∙ more .ends-are; nodes-are = pn ∙ more .nodes-are; count-is = refl });
+          }
+
+not-false : (b : Bool) → not b ≡ false → b ≡ true
+not-false true e = refl
+not-false false e = let z : true ≡ false = e in let w : _≡_ {A = ℕ} 0 1 = cc in absurd (omega arith)
+
+pub the-room : (line : List ℕ) (h : Held) (r : LineRead) → (r .fine ≡ true → Room line h r) → not (r .fine) ≡ false → Room line h r
+the-room line h r f e = f (not-false (r .fine) e)
+
+pub length-stored : (l out : List ℕ) (i x k : ℕ) → out ≡ set l i x → length l ≡ k → length out ≡ k
+length-stored l out i x k e h = ap (λ (y : List ℕ). length y) e ∙ length-set l i x ∙ h
+
+pub length-spliced : (l out cs : List ℕ) (i n k : ℕ) → out ≡ splice i (nodesOf n cs) l → i + n ≤ length l → length l ≡ k → length out ≡ k
+length-spliced l out cs i n k e f h = ap (λ (y : List ℕ). length y) e ∙ length-splice i (nodesOf n cs) l (omega (arith, f, length-nodesOf n cs)) ∙ h

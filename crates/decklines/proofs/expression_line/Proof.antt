@@ -1,0 +1,54 @@
+use Rattle.decklines.proofs.Laws as laws
+use native.Mathlib.Omega.{arith}
+use borrow.Author.Needs.{needs}
+use Rattle.decklines.proofs.expression_line.Statement.{statement}
+use Rattle.decklines.proofs.expression_line.Tie as tie
+use Rattle.decklines.proofs.expression_line.Reads as reads
+use Rattle.decklines.proofs.expression_line.Lts as lts
+use Rattle.decklines.proofs.no_expression.Reads as no-expression-reads
+use Rattle.lines.proofs.expression.Reads as expression-reads
+
+-- src/lib.rt:132:9
+expression-requires : tie.Need-expression-requires
+expression-requires c κs = search needs
+
+-- src/lib.rt:134:9
+no-expression-requires : tie.Need-no-expression-requires
+no-expression-requires c κs = search needs
+
+-- src/lib.rt:134:9
+returns : tie.Need-returns
+returns c = search (needs, laws.expression-deep, laws.expression-none)
+
+-- src/lib.rt:137:9
+no-expression-requires-2 : tie.Need-no-expression-requires-2
+no-expression-requires-2 c κs = search needs
+
+-- src/lib.rt:137:9
+returns-2 : tie.Need-returns-2
+returns-2 c = search (needs, laws.expression-wrong, laws.expression-none)
+
+-- src/lib.rt:140:9
+no-expression-requires-3 : tie.Need-no-expression-requires-3
+no-expression-requires-3 c κs = search needs
+
+-- src/lib.rt:140:9
+returns-3 : tie.Need-returns-3
+returns-3 c = search (needs, laws.expression-behind, laws.expression-none)
+
+-- src/lib.rt:128:1
+returns-4 : tie.Need-returns-4
+returns-4 c = search (needs, laws.expression-fine)
+
+pub expression-line-spec : {M : Type 1} → statement M
+expression-line-spec =
+    tie.close
+    (tie.spec
+    expression-requires
+    no-expression-requires
+    returns
+    no-expression-requires-2
+    returns-2
+    no-expression-requires-3
+    returns-3
+    returns-4)

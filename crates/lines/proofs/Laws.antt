@@ -1,0 +1,292 @@
+-- Laws of pairs, line ends and numbers.
+use mathlib.Core.Path.{_≡_, refl, sym, ap, _∙_, subst}
+use mathlib.Core.Logic.{_⊎_, inl, inr, ⊎-elim}
+use mathlib.Core.Bool.{Bool, true, false, not}
+use mathlib.Core.List.{List, [], _∷_, _++_}
+use mathlib.Core.Option.{Option, none, some}
+use Prim.Native.Nat.{ℕ, zero, suc, _+_, _-_, _*_, _^_, _<_, _≤_}
+use native.Mathlib.Omega.{arith}
+use native.Mathlib.Numerals.{add-one}
+use native.Mathlib.Nat.{pow-suc, pow-le-pow-right, sub-zero, add-assoc}
+use native.Mathlib.Decide.{ℕ-discrete, decLt}
+use lib.Dec.{ltb, leb, eqb, lit<}
+use lib.ListN.{length, take, drop, getD, length-drop, drop-of-length-le}
+use lib.Seq.{drop-cons, drop-drop}
+use borrow.Author.Tests.{lt-ltb, le-ltb, le-leb, lt-leb, eq-eqb, ne-eqb, ltb-true, ltb-false}
+use Rattle.lists.specs.Lists.{_among_, ended, unended}
+use Rattle.lists.proofs.Laws.{ended-none, ended-next, unended-whole, unended-next}
+use Rattle.frames.specs.Hex.{digitOf, byteOf, numberFrom, number}
+use Rattle.decks.specs.declared.Answer.the-variants.{BadFrame}
+use Rattle.decks.specs.Answers.{Outcome, Got, Refused, refuse}
+use Rattle.frames.specs.Read.{kindOf, wholeNumber, countLine}
+use Rattle.lines.specs.Steps.{lineLength, numberRead, countIs}
+use Rattle.lines.specs.declared.Number.{Number}
+use Rattle.lines.specs.declared.Number.the-variants.{Good, Bad}
+
+-- ---- digits
+
+module _ (c r : ℕ) where
+  pub digit-low : c < 48 → 16 ≡ digitOf c
+  unfolding digitOf
+  digit-low h = simp (lt-ltb c 48 h, digitOf)
+
+  pub digit-decimal : 48 ≤ c → c ≤ 57 → r ≡ c - 48 → r ≡ digitOf c
+  unfolding digitOf
+  digit-decimal h k e = e ∙ simp (le-ltb c 48 h, le-leb c 57 k, digitOf)
+
+  pub digit-between : 48 ≤ c → 57 < c → c < 65 → 16 ≡ digitOf c
+  unfolding digitOf
+  digit-between h k j = simp (le-ltb c 48 h, lt-leb c 57 k, lt-ltb c 65 j, digitOf)
+
+  pub digit-letter : 48 ≤ c → 57 < c → 65 ≤ c → c ≤ 70 → r ≡ c - 65 + 10 → r ≡ digitOf c
+  unfolding digitOf
+  digit-letter h k j i e = e ∙ simp (le-ltb c 48 h, lt-leb c 57 k, le-ltb c 65 j, le-leb c 70 i, digitOf)
+
+  pub digit-high : 48 ≤ c → 57 < c → 65 ≤ c → 70 < c → 16 ≡ digitOf c
+  unfolding digitOf
+  digit-high h k j i = simp (le-ltb c 48 h, lt-leb c 57 k, le-ltb c 65 j, lt-leb c 70 i, digitOf)
+
+-- ---- pairs
+
+kind-short : (cs : List ℕ) → length cs < 2 → kindOf cs ≡ 256
+unfolding kindOf
+kind-short [] h = refl
+kind-short (c ∷ []) h = refl
+kind-short (c ∷ d ∷ cs) h = absurd (omega arith)
+
+kind-long : (cs : List ℕ) → kindOf cs < 256 → 2 ≤ length cs
+unfolding kindOf
+kind-long [] h = absurd (omega arith)
+kind-long (c ∷ []) h = absurd (omega arith)
+kind-long (c ∷ d ∷ cs) h = omega arith
+
+byte-most : (h l : ℕ) → byteOf h l ≤ 256
+unfolding byteOf
+byte-most h l = go (ltb (digitOf h) 16) refl (ltb (digitOf l) 16) refl
+  where
+    go : (a : Bool) → ltb (digitOf h) 16 ≡ a → (b : Bool) → ltb (digitOf l) 16 ≡ b → byteOf h l ≤ 256
+    go true p true q = let e : byteOf h l ≡ 16 * digitOf h + digitOf l = simp (p, q, byteOf) in omega (arith, ltb-true (digitOf h) 16 p, ltb-true (digitOf l) 16 q)
+    go true p false q = let e : byteOf h l ≡ 256 = simp (p, q, byteOf) in omega arith
+    go false p b q = let e : byteOf h l ≡ 256 = simp (p, byteOf) in omega arith
+
+pub kind-most : (cs : List ℕ) → kindOf cs ≤ 256
+unfolding kindOf
+kind-most [] = omega arith
+kind-most (c ∷ []) = omega arith
+kind-most (c ∷ d ∷ cs) = byte-most c d
+
+pub drop-two : (l : List ℕ) (at : ℕ) → at + 2 ≤ length l → drop at l ≡ getD l at 0 ∷ getD l (at + 1) 0 ∷ drop (at + 2) l
+drop-two l at h =
+    let one : suc at ≡ at + 1 = omega arith in
+    let two : suc (at + 1) ≡ at + 2 = omega arith in
+    drop-cons l at 0 (omega arith)
+    ∙ ap (λ (k : ℕ). getD l at 0 ∷ drop k l) one
+    ∙ ap (λ (m : List ℕ). getD l at 0 ∷ m) (drop-cons l (at + 1) 0 (omega arith))
+    ∙ ap (λ (k : ℕ). getD l at 0 ∷ getD l (at + 1) 0 ∷ drop k l) two
+
+module _ (l : List ℕ) (at r : ℕ) where
+  pub no-pair : length l < 2 → 256 ≡ kindOf (drop at l)
+  no-pair h = sym (kind-short (drop at l) (omega (arith, length-drop at l)))
+
+  pub no-pair-left : 2 ≤ length l → length l - 2 < at → 256 ≡ kindOf (drop at l)
+  no-pair-left h k = sym (kind-short (drop at l) (omega (arith, length-drop at l)))
+
+  the-pair : 2 ≤ length l → at ≤ length l - 2 → kindOf (drop at l) ≡ byteOf (getD l at 0) (getD l (at + 1) 0)
+  unfolding kindOf
+  the-pair h k = ap kindOf (drop-two l at (omega arith))
+
+  pub pair-wrong-high : (high : ℕ) → 2 ≤ length l → at ≤ length l - 2 → high ≡ digitOf (getD l at 0) → 16 ≤ high → 256 ≡ kindOf (drop at l)
+  unfolding byteOf
+  pair-wrong-high high h k e i = sym (the-pair h k ∙ simp (le-ltb (digitOf (getD l at 0)) 16 (rw (← e) i), byteOf))
+
+  module _ (high low : ℕ) where
+    pub pair-wrong-low : 2 ≤ length l → at ≤ length l - 2 → high ≡ digitOf (getD l at 0) → high < 16 → low ≡ digitOf (getD l (at + 1) 0) → 16 ≤ low → 256 ≡ kindOf (drop at l)
+    unfolding byteOf
+    pair-wrong-low h k e i f j = sym (the-pair h k ∙ simp (lt-ltb (digitOf (getD l at 0)) 16 (rw (← e) i), le-ltb (digitOf (getD l (at + 1) 0)) 16 (rw (← f) j), byteOf))
+
+    pub pair-read : 2 ≤ length l → at ≤ length l - 2 → high ≡ digitOf (getD l at 0) → high < 16 → low ≡ digitOf (getD l (at + 1) 0) → low < 16 → 16 * high + low ≡ kindOf (drop at l)
+    unfolding byteOf
+    pair-read h k e i f j =
+        let c : ℕ = getD l at 0 in
+        let d : ℕ = getD l (at + 1) 0 in
+        let z : byteOf c d ≡ 16 * digitOf c + digitOf d = simp (lt-ltb (digitOf c) 16 (rw (← e) i), lt-ltb (digitOf d) 16 (rw (← f) j), byteOf) in
+        omega (arith, e, f, z, the-pair h k)
+
+  pub pair-most : r ≡ kindOf (drop at l) → r ≤ 256
+  pair-most e = rw e (kind-most (drop at l))
+
+  -- A pair that was read stands within the line.
+  pub pair-inside : r ≡ kindOf (drop at l) → r < 256 → at + 2 ≤ length l
+  pair-inside e h = omega (arith, kind-long (drop at l) (rw (← e) h), length-drop at l)
+
+-- ---- the end of a line
+
+length-at-end : (b : ℕ) (bs : List ℕ) → b ≡ 10 → lineLength (b ∷ bs) ≡ 0
+unfolding lineLength
+length-at-end b bs e = simp (eq-eqb b 10 e, lineLength)
+
+length-on : (b : ℕ) (bs : List ℕ) → (b ≡ 10 → ⊥) → lineLength (b ∷ bs) ≡ suc (lineLength bs)
+unfolding lineLength
+length-on b bs n = simp (ne-eqb b 10 n, lineLength)
+
+module _ (text : List ℕ) (at i : ℕ) where
+  pub line-met : i < length text → at + lineLength (drop at text) ≡ i + lineLength (drop i text) → getD text i 0 ≡ 10 → i ≡ at + lineLength (drop at text)
+  line-met h e q = omega (arith, e, ap lineLength (drop-cons text i 0 h) ∙ length-at-end (getD text i 0) (drop (suc i) text) q)
+
+  pub line-on : i < length text → at + lineLength (drop at text) ≡ i + lineLength (drop i text) → (getD text i 0 ≡ 10 → ⊥) → at + lineLength (drop at text) ≡ i + 1 + lineLength (drop (i + 1) text)
+  line-on h e n =
+      omega (
+        arith,
+        e,
+        ap lineLength (drop-cons text i 0 h) ∙ length-on (getD text i 0) (drop (suc i) text) n ∙ ap (λ (k : ℕ). suc (lineLength (drop k text))) (sym (add-one i)),
+      )
+
+  pub line-last : length text ≤ i → at + lineLength (drop at text) ≡ i + lineLength (drop i text) → i ≡ at + lineLength (drop at text)
+  unfolding lineLength
+  line-last h e = omega (arith, e, ap lineLength (drop-of-length-le text {i = i} h))
+
+-- ---- numbers
+
+number-short : (k v : ℕ) (cs : List ℕ) → 256 ≤ kindOf cs → numberFrom (suc k) v cs ≡ none
+unfolding kindOf numberFrom
+number-short k v [] h = refl
+number-short k v (c ∷ []) h = refl
+number-short k v (c ∷ d ∷ cs) h = simp (le-ltb (byteOf c d) 256 h, numberFrom)
+
+number-on : (k v : ℕ) (cs : List ℕ) → kindOf cs < 256 → numberFrom (suc k) v cs ≡ numberFrom k (256 * v + kindOf cs) (drop 2 cs)
+unfolding kindOf numberFrom
+number-on k v [] h = absurd (omega arith)
+number-on k v (c ∷ []) h = absurd (omega arith)
+number-on k v (c ∷ d ∷ cs) h = simp (lt-ltb (byteOf c d) 256 h, numberFrom)
+
+number-more : (v : ℕ) (cs : List ℕ) → 0 < length cs → numberFrom 0 v cs ≡ none
+unfolding numberFrom
+number-more v [] h = absurd (omega arith)
+number-more v (c ∷ cs) h = refl
+
+module _ (l : List ℕ) (at k i value place : ℕ) where
+  -- The number of the whole is that of what is left, behind what was read.
+  abbrev pub NumberSofar : Type 0
+  NumberSofar = number k (drop at l) ≡ numberFrom (k - i) value (drop place l)
+
+  pub number-begun : number k (drop at l) ≡ numberFrom (k - 0) 0 (drop at l)
+  number-begun = ap (λ (n : ℕ). numberFrom n 0 (drop at l)) (sym (sub-zero k))
+
+  pub number-wrong : (b : ℕ) → i < k → NumberSofar → b ≡ kindOf (drop place l) → 256 ≤ b → Bad ≡ numberRead (number k (drop at l))
+  number-wrong b h e p q =
+      let more : k - i ≡ suc (k - i - 1) = omega arith in
+      sym (ap numberRead (e ∙ ap (λ (n : ℕ). numberFrom n value (drop place l)) more ∙ number-short (k - i - 1) value (drop place l) (rw (← p) q)))
+
+  pub number-next : (b : ℕ) → i < k → NumberSofar → b ≡ kindOf (drop place l) → b < 256 → number k (drop at l) ≡ numberFrom (k - (i + 1)) (256 * value + b) (drop (place + 2) l)
+  number-next b h e p q =
+      let more : k - i ≡ suc (k - (i + 1)) = omega arith in
+      e
+      ∙ ap (λ (n : ℕ). numberFrom n value (drop place l)) more
+      ∙ number-on (k - (i + 1)) value (drop place l) (rw (← p) q)
+      ∙ ap (λ (n : ℕ). numberFrom (k - (i + 1)) (256 * value + n) (drop 2 (drop place l))) (sym p)
+      ∙ ap (numberFrom (k - (i + 1)) (256 * value + b)) (drop-drop 2 place l)
+
+  pub number-behind : k ≤ i → NumberSofar → place < length l → Bad ≡ numberRead (number k (drop at l))
+  number-behind h e q =
+      let none-left : k - i ≡ 0 = omega arith in
+      sym (ap numberRead (e ∙ ap (λ (n : ℕ). numberFrom n value (drop place l)) none-left ∙ number-more value (drop place l) (omega (arith, length-drop place l))))
+
+  pub number-whole : k ≤ i → NumberSofar → length l ≤ place → Good value ≡ numberRead (number k (drop at l))
+  unfolding numberFrom
+  number-whole h e q =
+      let none-left : k - i ≡ 0 = omega arith in
+      sym (ap numberRead (e ∙ ap (λ (n : ℕ). numberFrom n value (drop place l)) none-left ∙ ap (numberFrom 0 value) (drop-of-length-le l {i = place} q)))
+
+  -- What was read of at most eight pairs fits a word.
+  pub number-room : (b : ℕ) → i < k → k ≤ 8 → value < 256 ^ i → b < 256 → 256 * value + b < 256 ^ (i + 1)
+  number-room b h m v q = omega (arith, v, q, ap (λ (n : ℕ). 256 ^ n) (add-one i) ∙ pow-suc 256 i)
+
+  pub number-fits : (b : ℕ) → i < k → k ≤ 8 → value < 256 ^ i → b < 256 → 256 * value + b < 2 ^ 64
+  number-fits b h m v q = let le : i + 1 ≤ 8 = omega arith in let p : 256 ^ (i + 1) ≤ 256 ^ 8 = pow-le-pow-right (lit< tt) le in omega (arith, number-room b h m v q, p)
+
+  pub number-doubled : i < k → k ≤ 8 → value < 256 ^ i → 256 * value < 2 ^ 64
+  number-doubled h m v = omega (arith, number-fits 0 h m v (lit< tt))
+
+-- What the number read says of the number.
+pub read-good : (o : Option ℕ) (r : Number) (x : ℕ) → r ≡ numberRead o → r ≡ Good x → o ≡ some x
+read-good none r x e q = let z : Bad ≡ Good x = sym e ∙ q in cc
+read-good (some y) r x e q = let z : Good y ≡ Good x = sym e ∙ q in cc
+
+pub read-bad : (o : Option ℕ) (r : Number) → r ≡ numberRead o → r ≡ Bad → o ≡ none
+read-bad none r e q = refl
+read-bad (some y) r e q = let z : Good y ≡ Bad = sym e ∙ q in cc
+
+module _ (t n k : ℕ) (cs : List ℕ) (r : Number) where
+  pub whole-number-none : r ≡ numberRead (number k cs) → r ≡ Bad → wholeNumber t n k cs ≡ Refused (BadFrame t n)
+  unfolding wholeNumber
+  whole-number-none e q = simp (read-bad (number k cs) r e q, wholeNumber)
+
+  pub whole-number-some : (x : ℕ) → r ≡ numberRead (number k cs) → r ≡ Good x → wholeNumber t n k cs ≡ Got x
+  unfolding wholeNumber
+  whole-number-some x e q = simp (read-good (number k cs) r x e q, wholeNumber)
+
+-- 05 and 15 by their count.
+pub count-line : {S : Type 0} (t n : ℕ) (cs : List ℕ) (s : S) → countLine t n cs s ≡ refuse (not (countIs n cs)) (BadFrame t n) (Got s)
+unfolding countLine countIs wholeNumber
+count-line t n cs s = go (number 2 cs) refl
+  where
+    go : (o : Option ℕ) → number 2 cs ≡ o → countLine t n cs s ≡ refuse (not (countIs n cs)) (BadFrame t n) (Got s)
+    go none e = simp (e, countLine, countIs, wholeNumber)
+    go (some x) e = simp (e, countLine, countIs, wholeNumber)
+
+module _ (cs : List ℕ) (r : Number) (n x : ℕ) where
+  pub counts-none : r ≡ numberRead (number 2 cs) → r ≡ Bad → false ≡ countIs n cs
+  unfolding countIs
+  counts-none e q = simp (read-bad (number 2 cs) r e q, countIs)
+
+  pub counts-some : 1 ≤ n → r ≡ numberRead (number 2 cs) → r ≡ Good x → eqb x (n - 1) ≡ countIs n cs
+  unfolding countIs
+  counts-some h e q = let c : countIs n cs ≡ eqb (x + 1) n = simp (read-good (number 2 cs) r x e q, countIs) in go (ℕ-discrete x (n - 1)) ∙ sym c
+    where
+      go : Dec (x ≡ n - 1) → eqb x (n - 1) ≡ eqb (x + 1) n
+      go (yes s) = eq-eqb x (n - 1) s ∙ sym (eq-eqb (x + 1) n (omega arith))
+      go (no d) = ne-eqb x (n - 1) d ∙ sym (ne-eqb (x + 1) n (λ s. d (omega arith)))
+
+-- ---- what stands in a text from a place on
+
+-- A line, and behind its byte 10 the rest of the text.
+line-split : (t : List ℕ) → lineLength t < length t → (10 among take (lineLength t) t → ⊥) × (t ≡ take (lineLength t) t ++ 10 ∷ drop (suc (lineLength t)) t)
+line-split [] h = absurd (omega (arith, h))
+line-split (b ∷ bs) h = go (ℕ-discrete b 10) (line-split bs)
+  where
+    go : Dec (b ≡ 10) → (lineLength bs < length bs → (10 among take (lineLength bs) bs → ⊥) × (bs ≡ take (lineLength bs) bs ++ 10 ∷ drop (suc (lineLength bs)) bs)) → (10 among take (lineLength (b ∷ bs)) (b ∷ bs) → ⊥) × (b ∷ bs ≡ take (lineLength (b ∷ bs)) (b ∷ bs) ++ 10 ∷ drop (suc (lineLength (b ∷ bs))) (b ∷ bs))
+    go (yes e) f = rw (length-at-end b bs e) (λ m. m, ap (λ (x : ℕ). x ∷ bs) e)
+    go (no n) f =
+        let r = f (omega (arith, h, length-on b bs n)) in
+        rw (length-on b bs n) (⊎-elim (λ e. n (sym e)) (r .0), ap (λ (l : List ℕ). b ∷ l) (r .1))
+
+line-free : (t : List ℕ) → length t ≤ lineLength t → 10 among t → ⊥
+line-free [] h m = m
+line-free (b ∷ bs) h m = go (ℕ-discrete b 10) (line-free bs)
+  where
+    go : Dec (b ≡ 10) → (length bs ≤ lineLength bs → 10 among bs → ⊥) → ⊥
+    go (yes e) f = absurd (omega (arith, h, length-at-end b bs e))
+    go (no n) f = ⊎-elim (λ e. n (sym e)) (f (omega (arith, h, length-on b bs n))) m
+
+module _ (text : List ℕ) (at end : ℕ) where
+  line-and-rest : end ≡ at + lineLength (drop at text) → end < length text → at ≤ end → (10 among take (end - at) (drop at text) → ⊥) × (drop at text ≡ take (end - at) (drop at text) ++ 10 ∷ drop (end + 1) text)
+  line-and-rest e h i =
+      let long : lineLength (drop at text) ≡ end - at = omega arith in
+      let behind : at + suc (end - at) ≡ end + 1 = omega arith in
+      let s = line-split (drop at text) (omega (arith, length-drop at text)) in
+      let t : (10 among take (end - at) (drop at text) → ⊥) × (drop at text ≡ take (end - at) (drop at text) ++ 10 ∷ drop (suc (end - at)) (drop at text)) = subst (λ (k : ℕ). (10 among take k (drop at text) → ⊥) × (drop at text ≡ take k (drop at text) ++ 10 ∷ drop (suc k) (drop at text))) long s in
+      (t .0, t .1 ∙ ap (λ (l : List ℕ). take (end - at) (drop at text) ++ 10 ∷ l) (drop-drop (suc (end - at)) at text ∙ ap (λ (k : ℕ). drop k text) behind))
+
+  -- The lines from a place on: the one that begins there, then those behind its byte 10.
+  pub ended-at : end ≡ at + lineLength (drop at text) → end < length text → at ≤ end → ended (drop at text) ≡ take (end - at) (drop at text) ∷ ended (drop (end + 1) text)
+  ended-at e h i = let s = line-and-rest e h i in ap ended (s .1) ∙ ended-next (take (end - at) (drop at text)) (drop (end + 1) text) (s .0)
+
+  pub unended-at : end ≡ at + lineLength (drop at text) → end < length text → at ≤ end → unended (drop at text) ≡ unended (drop (end + 1) text)
+  unended-at e h i = let s = line-and-rest e h i in ap unended (s .1) ∙ unended-next (take (end - at) (drop at text)) (drop (end + 1) text)
+
+  -- Where no byte 10 follows there is no further line.
+  pub ended-last : end ≡ at + lineLength (drop at text) → length text ≤ end → at ≤ length text → ended (drop at text) ≡ []
+  ended-last e h i = ended-none (drop at text) (line-free (drop at text) (omega (arith, length-drop at text)))
+
+  pub unended-last : end ≡ at + lineLength (drop at text) → length text ≤ end → at ≤ length text → unended (drop at text) ≡ drop at text
+  unended-last e h i = unended-whole (drop at text) (line-free (drop at text) (omega (arith, length-drop at text)))

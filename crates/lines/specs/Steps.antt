@@ -1,0 +1,54 @@
+-- What the readers of one line answer.
+use mathlib.Core.Bool.{Bool, true, false}
+use mathlib.Core.List.{List, [], _∷_}
+use mathlib.Core.Option.{Option, none, some}
+use Prim.Native.Nat.{ℕ, zero, suc, _+_, _-_}
+use lib.Dec.{ltb, eqb}
+use lib.ListN.{length, drop}
+use Rattle.sets.specs.Sets.{only}
+use Rattle.logic.specs.Expressions.{Expr, nodes, written, temporal}
+use Rattle.frames.specs.Hex.{number}
+use Rattle.frames.specs.Read.{Sign, Leaf, Before, Between, NoSign, Reading, Whole, Wrong, Deep, kindOf}
+use Rattle.lines.specs.declared.Number.{Number}
+use Rattle.lines.specs.declared.Number.the-variants.{Good, Bad}
+use Rattle.lines.specs.declared.Step.{Step}
+
+-- The bytes that stand before the first byte 10: all, where there is none.
+unfoldable pub lineLength : List ℕ → ℕ
+lineLength [] = 0
+lineLength (b ∷ bs) = elim (eqb b 10) [ true ↦ 0 | false ↦ suc (lineLength bs) ]
+
+-- A number read, or not.
+abbrev pub numberRead : Option ℕ → Number
+numberRead none = Bad
+numberRead (some n) = Good n
+
+-- Whether the two bytes of a 05 or 15 are the number of frames before line n.
+unfoldable pub countIs : ℕ → List ℕ → Bool
+countIs n cs = elim (number 2 cs) [ none ↦ false | some x ↦ eqb (x + 1) n ]
+
+-- How many operands a sign has; 3 for none.
+abbrev pub placesOf : Sign → ℕ
+placesOf (Leaf e) = 0
+placesOf (Before o) = 1
+placesOf (Between o) = 2
+placesOf NoSign = 3
+
+-- The variable that a code is, as a set; nothing for any other code.
+unfoldable pub leafVars : ℕ → ℕ
+leafVars b = elim (ltb b 64) [ true ↦ only b | false ↦ 0 ]
+
+-- How the reading of an expression stopped, in a line of n characters: whole 0, wrong 1, at level 33 2; and where what is left begins.
+abbrev pub stepOf : ℕ → Reading → Step
+stepOf n (Whole e cs) = record { stop = 0; next = n - length cs; nodes = nodes e; vars = written e; temporal = temporal e }
+stepOf n (Wrong cs) = record { stop = 1; next = n - length cs; nodes = 0; vars = 0; temporal = false }
+stepOf n (Deep cs) = record { stop = 2; next = n - length cs; nodes = 0; vars = 0; temporal = false }
+
+-- The node of a code.
+unfoldable pub nodeOf : ℕ → ℕ
+nodeOf b = elim (ltb b 64) [ true ↦ b | false ↦ b - 64 + 256 ]
+
+-- The nodes of the first n pairs.
+unfoldable pub nodesOf : ℕ → List ℕ → List ℕ
+nodesOf zero cs = []
+nodesOf (suc n) cs = nodeOf (kindOf cs) ∷ nodesOf n (drop 2 cs)

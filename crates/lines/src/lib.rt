@@ -1,0 +1,280 @@
+// Hexadecimal pairs, line ends, and the reader of one expression straight from its pairs.
+ghost use mathlib.Core.Path.{_≡_};
+ghost use mathlib.Core.Bool.{_||_};
+ghost use Prim.Native.Nat.{ℕ, _+_, _*_, _<_, _≤_};
+ghost use lib.ListN.{length, drop, set};
+ghost use lib.Dec.{leb};
+ghost use Rattle.lists.specs.Lists.{splice};
+ghost use Rattle.frames.specs.Hex.{digitOf, number};
+ghost use Rattle.frames.specs.Read.{signOf, kindOf, readExpr};
+ghost use Rattle.lines.specs.Steps.{lineLength, numberRead, countIs, placesOf, stepOf, leafVars, nodeOf, nodesOf};
+
+// Byte 10 ends a line.
+const LINE_END: u8 = 10;
+
+// What stands where no pair is.
+pub const NO_PAIR: u64 = 256;
+
+// The codes from which on constants and operators stand, and the first that is no code.
+const CONSTANTS: u64 = 64;
+
+const NOT: u64 = 66;
+
+const AND: u64 = 67;
+
+const NEXT: u64 = 69;
+
+const UNTIL: u64 = 72;
+
+const NO_CODE: u64 = 74;
+
+// How the reading of an expression stopped.
+pub const WHOLE: u8 = 0;
+
+pub const WRONG: u8 = 1;
+
+pub const DEEP: u8 = 2;
+
+// The number that pairs give, or that they are not as due.
+pub enum Number {
+    Good(u64),
+    Bad,
+}
+
+// Where and how the reading of an expression stopped; of a whole one its nodes, the variables written, and whether one of `X F G U W` is there.
+pub struct Step {
+    pub stop: u8,
+    pub next: usize,
+    pub nodes: usize,
+    pub vars: u64,
+    pub temporal: bool,
+}
+
+fn wide(x: u8) -> u64
+    ensures { λ r. ⌜ r ≡ x ⌝ }
+{
+    x as u64
+}
+
+// The number of a digit; 16 for any other character.
+fn digit_of(c: u8) -> u64
+    ensures { λ r. ⌜ r ≡ digitOf c ⌝ }
+{
+    if c < b'0' {
+        return 16;
+    }
+    if c <= b'9' {
+        return wide(c - b'0');
+    }
+    if c < b'A' {
+        return 16;
+    }
+    if c <= b'F' {
+        return wide(c - b'A' + 10);
+    }
+    16
+}
+
+// The byte of the pair that begins at a place of the line.
+pub fn pair_at(line: &[u8], at: usize) -> u64
+    ensures { λ r. ⌜ r ≡ kindOf (drop at (now (line .entry))) ⌝ }
+{
+    if line.len() < 2 {
+        return NO_PAIR;
+    }
+    if line.len() - 2 < at {
+        return NO_PAIR;
+    }
+    let high = digit_of(line[at]);
+    if high >= 16 {
+        return NO_PAIR;
+    }
+    let low = digit_of(line[at + 1]);
+    if low >= 16 {
+        return NO_PAIR;
+    }
+    16 * high + low
+}
+
+// Where the line that begins at a place of the text ends: at its byte 10, or at the end of the text.
+pub fn line_end(text: &[u8], at: usize) -> usize
+    requires { ⌜ at ≤ length (now text) ⌝ }
+    ensures { λ r. ⌜ (r ≡ at + lineLength (drop at (now (text .entry)))) × (at ≤ r) × (r ≤ length (now (text .entry))) ⌝ }
+{
+    let mut i = at;
+    while i < text.len() {
+        if text[i] == LINE_END {
+            return i;
+        }
+        i += 1;
+    }
+    i
+}
+
+// The number of exactly k pairs from a place of the line to its end.
+pub fn number_at(line: &[u8], at: usize, k: usize) -> Number
+    requires { ⌜ k ≤ 8 ⌝ }
+    ensures { λ r. ⌜ r ≡ numberRead (number k (drop at (now (line .entry)))) ⌝ }
+{
+    let mut value = 0u64;
+    let mut i = 0;
+    let mut place = at;
+    while i < k {
+        let b = pair_at(line, place);
+        if b >= NO_PAIR {
+            return Number::Bad;
+        }
+        value = 256 * value + b;
+        place += 2;
+        i += 1;
+    }
+    if place < line.len() {
+        return Number::Bad;
+    }
+    Number::Good(value)
+}
+
+// Whether the number of two bytes behind the kind counts the frames before line n.
+pub fn counts(line: &[u8], n: u64) -> bool
+    requires { ⌜ 1 ≤ n ⌝ }
+    ensures { λ r. ⌜ r ≡ countIs n (drop 2 (now (line .entry))) ⌝ }
+{
+    let Number::Good(x) = number_at(line, 2, 2) else {
+        return false;
+    };
+    x == n - 1
+}
+
+// How many operands the code's sign has; 3 where the code is no sign.
+fn places(b: u64) -> u8
+    ensures { λ r. ⌜ r ≡ placesOf (signOf b) ⌝ }
+{
+    if b < NOT {
+        return 0;
+    }
+    if b < AND {
+        return 1;
+    }
+    if b < NEXT {
+        return 2;
+    }
+    if b < UNTIL {
+        return 1;
+    }
+    if b < NO_CODE {
+        return 2;
+    }
+    3
+}
+
+// The variable that the code is, as a set; nothing for any other code.
+fn leaf_vars(b: u64) -> u64
+    ensures { λ r. ⌜ r ≡ leafVars b ⌝ }
+{
+    if b < CONSTANTS {
+        return sets::variable(b as usize);
+    }
+    0
+}
+
+// Whether one of two is so.
+fn either(a: bool, b: bool) -> bool
+    ensures { λ r. ⌜ r ≡ (a || b) ⌝ }
+{
+    if a {
+        return true;
+    }
+    b
+}
+
+// The expression whose pairs begin at a place of the line, with as many levels left as given.
+pub fn expression(line: &[u8], at: usize, left: usize) -> Step
+    requires { ⌜ at ≤ length (now line) ⌝ }
+    ensures { λ r. ⌜ (r ≡ stepOf (length (now (line .entry))) (readExpr left (drop at (now (line .entry))))) × (at + 2 * r .nodes ≤ r .next) × (r .next ≤ length (now (line .entry))) ⌝ }
+{
+    let b = pair_at(line, at);
+    let k = places(b);
+    if k == 3 {
+        return Step {
+            stop: WRONG,
+            next: at,
+            nodes: 0,
+            vars: 0,
+            temporal: false,
+        };
+    }
+    if left == 0 {
+        return Step {
+            stop: DEEP,
+            next: at,
+            nodes: 0,
+            vars: 0,
+            temporal: false,
+        };
+    }
+    if k == 0 {
+        return Step {
+            stop: WHOLE,
+            next: at + 2,
+            nodes: 1,
+            vars: leaf_vars(b),
+            temporal: false,
+        };
+    }
+    let first = expression(line, at + 2, left - 1);
+    if first.stop != WHOLE {
+        return first;
+    }
+    let always = NEXT <= b;
+    if k == 1 {
+        return Step {
+            stop: WHOLE,
+            next: first.next,
+            nodes: first.nodes + 1,
+            vars: first.vars,
+            temporal: either(always, first.temporal),
+        };
+    }
+    let second = expression(line, first.next, left - 1);
+    if second.stop != WHOLE {
+        return second;
+    }
+    Step {
+        stop: WHOLE,
+        next: second.next,
+        nodes: first.nodes + second.nodes + 1,
+        vars: sets::union(first.vars, second.vars),
+        temporal: either(always, either(first.temporal, second.temporal)),
+    }
+}
+
+// The node of a code.
+fn node_of(b: u64) -> u16
+    requires { ⌜ b ≤ 256 ⌝ }
+    ensures { λ r. ⌜ r ≡ nodeOf b ⌝ }
+{
+    if b < CONSTANTS {
+        return b as u16;
+    }
+    (b - CONSTANTS + 256) as u16
+}
+
+// A node stored at a place of a row of nodes.
+pub fn put_node(nodes: &mut [u16], i: usize, n: u16)
+    requires { ⌜ i < length (now nodes) ⌝ }
+    ensures { λ _. ⌜ now (nodes .exit) ≡ set (now (nodes .entry)) i n ⌝ }
+{
+    nodes[i] = n;
+}
+
+// The nodes of n pairs from a place of the line on, stored from a place of the lent row on.
+pub fn store_nodes(line: &[u8], at: usize, n: usize, out: &mut [u16], used: usize)
+    requires { ⌜ (at + 2 * n ≤ length (now line)) × (used + n ≤ length (now out)) ⌝ }
+    ensures { λ _. ⌜ now (out .exit) ≡ splice used (nodesOf n (drop at (now (line .entry)))) (now (out .entry)) ⌝ }
+{
+    let mut i = 0;
+    while i < n {
+        put_node(out, used + i, node_of(pair_at(line, at + 2 * i)));
+        i += 1;
+    }
+}
