@@ -39,7 +39,8 @@ fn with_mark(u: u64, v: usize, test: bool) -> u64
     ensures { λ r. ⌜ r ≡ marked test v u ⌝ }
 {
     if test {
-        return sets::union(u, sets::variable(v));
+        let one = sets::variable(v);
+        return sets::union(u, one);
     }
     u
 }
