@@ -25,7 +25,16 @@ pub fn verdict_on(
     if !steps::is_among(&d.inits, initials, first) {
         return decks::Answer::NotInitial;
     }
-    steps::mark_all(&d.lefts, &d.ends, &d.nodes, d.equations, states, p, words, marks);
+    steps::mark_all(
+        &d.lefts,
+        &d.ends,
+        &d.nodes,
+        d.equations,
+        states,
+        p,
+        words,
+        marks,
+    );
     let step = steps::first_lacking(d.vars, marks);
     let end = states.len();
     if step < end {
