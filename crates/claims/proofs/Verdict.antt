@@ -7,7 +7,7 @@ use native.Mathlib.Omega.{arith}
 use native.Mathlib.Nat.{zero-add}
 use borrow.Author.Tests.{eq-eqb, ne-eqb}
 use lib.Dec.{eqb}
-use lib.ListN.{length, take, drop, getD}
+use lib.ListN.{length, take, getD, replicate}
 use lib.Pow.{pow-pos}
 use lib.Bits.{or-zero-l}
 use Rattle.lists.specs.Lists.{stands, padded}
@@ -16,7 +16,7 @@ use Rattle.sets.specs.Sets.{bit, union, inside, meet}
 use Rattle.sets.proofs.Laws.{member-lt}
 use Rattle.logic.specs.Expressions.{Expr, code}
 use Rattle.logic.specs.Decks.{Equation, Deck, Allowed, Accepted, base}
-use Rattle.logic.specs.Meaning.{Claim, stateOf, follower}
+use Rattle.logic.specs.Meaning.{Claim, Sized, stateOf, follower}
 use Rattle.logic.specs.Verdicts.{Breaking, NotInitial as NotInitialState, NoStep as NoSuchStep, Holding as HoldingProperty, truth, taken, allowed, stepsFrom, verdict}
 use Rattle.logic.proofs.Codes.{Narrow, written-narrow}
 use Rattle.logic.proofs.Verdict.{truth-lt}
@@ -180,3 +180,22 @@ module _ (d : Stored) (D : Deck) (e : d ≡ stored D) (ok : Accepted base D) whe
               let a = ne-eqb (truth (claimOf p states) (D .property) 0) 1 (λ y. t (top-is ∙ y)) in
               let v : stepsFrom D (claimOf p states) 0 r ≡ Breaking = simp (a, stepsFrom) in
               sym (ap verdictAnswer (initial b s h q n ∙ whole l ∙ v))
+
+-- ---- a claim that was read, and room of zeros, as they are lent
+
+pub claim-lent : (n : ℕ) (m : Claim) → Sized base m → claimOf (m .p) (take (m .p + m .c) (padded n (m .states))) ≡ m
+claim-lent n m s =
+    let t : take (m .p + m .c) (padded n (m .states)) ≡ m .states = rw (← s .all) (take-padded n (m .states)) in
+    let c : length (m .states) - m .p ≡ m .c = omega (arith, s .all) in
+    rw t (ap (λ (k : ℕ). record { p = m .p; c = k; states = m .states }) c)
+
+pub zeros-all : (n : ℕ) → Zeros (replicate n 0)
+zeros-all zero i = refl
+zeros-all (suc n) zero = refl
+zeros-all (suc n) (suc i) = zeros-all n i
+
+pub zeros-part : (n : ℕ) (ws : List ℕ) → Zeros ws → Zeros (take n ws)
+zeros-part zero ws z i = refl
+zeros-part (suc n) [] z i = refl
+zeros-part (suc n) (w ∷ ws) z zero = z 0
+zeros-part (suc n) (w ∷ ws) z (suc i) = zeros-part n ws (λ j. z (suc j)) i
