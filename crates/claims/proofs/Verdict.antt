@@ -1,33 +1,29 @@
 -- The verdict from what was worked out: the first state, the marks of the steps, the truth of the property.
-use mathlib.Core.Path.{_≡_, refl, sym, ap, ap₂, _∙_, subst}
+use mathlib.Core.Path.{_≡_, refl, sym, ap, ap₂, _∙_}
 use mathlib.Core.Bool.{Bool, true, false, not}
 use mathlib.Core.List.{List, [], _∷_}
-use Prim.Native.Nat.{ℕ, zero, suc, _+_, _*_, _-_, _/_, _%_, _^_, _<_, _≤_, min, max}
+use Prim.Native.Nat.{ℕ, zero, suc, _+_, _-_, _%_, _^_, _<_, _≤_}
 use native.Mathlib.Omega.{arith}
-use native.Mathlib.Nat.{zero-add}
 use borrow.Author.Tests.{eq-eqb, ne-eqb}
-use lib.Dec.{eqb}
 use lib.ListN.{length, take, getD, replicate}
 use lib.Pow.{pow-pos}
 use lib.Bits.{or-zero-l}
 use Rattle.lists.specs.Lists.{stands, padded}
 use Rattle.lists.proofs.Laws.{each-map, take-padded, length-padded}
-use Rattle.sets.specs.Sets.{bit, union, inside, meet}
+use Rattle.sets.specs.Sets.{union, inside}
 use Rattle.sets.proofs.Laws.{member-lt}
-use Rattle.logic.specs.Expressions.{Expr, code}
 use Rattle.logic.specs.Decks.{Equation, Deck, Allowed, Accepted, base}
 use Rattle.logic.specs.Meaning.{Claim, Sized, stateOf, follower}
 use Rattle.logic.specs.Verdicts.{Breaking, NotInitial as NotInitialState, NoStep as NoSuchStep, Holding as HoldingProperty, truth, taken, allowed, stepsFrom, verdict}
-use Rattle.logic.proofs.Codes.{Narrow, written-narrow}
+use Rattle.logic.proofs.Codes.{written-narrow}
 use Rattle.logic.proofs.Verdict.{truth-lt}
 use Rattle.terms.specs.Nodes.{Stands}
 use Rattle.terms.proofs.Trees.{stands-at}
 use Rattle.decks.specs.declared.Deck.{Deck as Stored}
-use Rattle.decks.specs.declared.Answer.{Answer}
 use Rattle.decks.specs.declared.Answer.the-variants.{Fine, NotInitial, NoStep, Holding}
-use Rattle.decks.specs.Stored.{stored, HoldsEquations}
-use Rattle.evaluator.specs.Pending.{pushed, Done, All, following}
-use Rattle.truths.specs.Worked.{claimOf, truthWord, Worked, Ready, Evaluated}
+use Rattle.decks.specs.Stored.{stored}
+use Rattle.evaluator.specs.Pending.{All, following}
+use Rattle.truths.specs.Worked.{claimOf, truthWord, Ready, Evaluated}
 use Rattle.steps.specs.Steps.{behind, takenWord, Fit, Given, Zeros, FirstLacking}
 use Rattle.claims.specs.Checked.{verdictAnswer}
 
