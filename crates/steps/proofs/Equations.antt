@@ -1,11 +1,11 @@
 -- The marks that the equations leave, one after the other.
-use mathlib.Core.Path.{_≡_, refl, sym, ap, ap₂, _∙_, subst}
+use mathlib.Core.Path.{_≡_, refl, sym, ap, ap₂, _∙_}
 use mathlib.Core.Bool.{Bool, true, false}
-use mathlib.Core.List.{List, [], _∷_}
-use Prim.Native.Nat.{ℕ, zero, suc, _+_, _*_, _-_, _/_, _%_, _^_, _<_, _≤_, min, max}
+use mathlib.Core.List.{List, _∷_}
+use Prim.Native.Nat.{ℕ, _+_, _-_, _/_, _%_, _^_, _<_, _≤_, min, max}
 use native.Mathlib.Omega.{arith}
 use lib.Dec.{eqb}
-use lib.ListN.{length, take, drop, getD, drop-of-length-le, List·getD-eq-default}
+use lib.ListN.{length, take, drop, getD, drop-of-length-le}
 use lib.Seq.{ext-getD}
 use lib.Pow.{pow-pos}
 use lib.Bits.{or-zero-r}
@@ -18,9 +18,8 @@ use Rattle.logic.specs.Verdicts.{truth, taken}
 use Rattle.logic.proofs.Verdict.{truth-lt}
 use Rattle.terms.specs.Nodes.{Stands}
 use Rattle.terms.proofs.Laws.{union-assoc}
-use Rattle.terms.proofs.Trees.{stands-unique}
 use Rattle.cones.proofs.Equations.{equation, each-equation, within, left-is, left-within, end-within, end-is, right-stands, next-equation}
-use Rattle.evaluator.specs.Pending.{pushed, Done, All, Below, tops}
+use Rattle.evaluator.specs.Pending.{All, tops}
 use Rattle.truths.specs.Worked.{claimOf, truthWord, Worked, Ready, Evaluated}
 use Rattle.truths.proofs.Operators.{all-as, all-then}
 use Rattle.steps.specs.Steps.{behind, marked, markWord, equationWord, takenWord, Marks, Fit, Given, Zeros}

@@ -2,18 +2,18 @@
 use mathlib.Core.Path.{_≡_, refl, sym, ap, ap₂, _∙_}
 use mathlib.Core.Logic.{by-cases}
 use mathlib.Core.Bool.{Bool, true, false, not}
-use mathlib.Core.List.{List, [], _∷_}
-use Prim.Native.Nat.{ℕ, zero, suc, _+_, _*_, _-_, _/_, _%_, _^_, _<_, _≤_, min, max}
+use mathlib.Core.List.{List, _∷_}
+use Prim.Native.Nat.{ℕ, suc, _+_, _-_, _%_, _^_, _<_, _≤_}
 use native.Mathlib.Omega.{arith}
 use native.Mathlib.Decide.{ℕ-discrete}
 use native.Mathlib.Numerals.{add-one}
 use borrow.Author.Tests.{eq-eqb, ne-eqb}
 use lib.Dec.{eqb}
-use lib.ListN.{length, take, drop, getD, set, drop-of-length-le}
-use lib.Seq.{drop-cons, take-nil}
+use lib.ListN.{length, take, drop, getD, set}
+use lib.Seq.{drop-cons}
 use Rattle.lists.specs.Lists.{stands}
 use Rattle.sets.specs.Sets.{bit, only, union, inside, width}
-use Rattle.evaluator.specs.Pending.{top, Done, All, following, tops}
+use Rattle.evaluator.specs.Pending.{Done, following, tops}
 use Rattle.evaluator.proofs.Laws.{done-next, following-next, following-last}
 use Rattle.steps.specs.Steps.{behind, marked, markWord, FirstLacking}
 

@@ -2,7 +2,7 @@
 use mathlib.Core.Path.{_≡_}
 use mathlib.Core.Bool.{Bool, true, false}
 use mathlib.Core.List.{List}
-use Prim.Native.Nat.{ℕ, _+_, _-_, _%_, _^_, _<_, _≤_}
+use Prim.Native.Nat.{ℕ, _%_, _^_, _<_, _≤_}
 use lib.Dec.{eqb}
 use lib.ListN.{length, getD}
 use Rattle.lists.specs.Lists.{Each}
@@ -13,7 +13,7 @@ use Rattle.logic.specs.Verdicts.{taken}
 use Rattle.logic.proofs.Codes.{Narrow}
 use Rattle.terms.specs.Nodes.{Stands}
 use Rattle.decks.specs.Stored.{HoldsEquations}
-use Rattle.evaluator.specs.Pending.{top, All, following, tops}
+use Rattle.evaluator.specs.Pending.{All, following, tops}
 
 -- The state behind step k.
 abbrev pub behind : List ℕ → ℕ → ℕ → ℕ

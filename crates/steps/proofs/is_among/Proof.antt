@@ -1,12 +1,10 @@
 use borrow.Author.Needs.{needs}
 use Rattle.steps.proofs.Marks as laws
-use Prim.Native.Nat.{_-_, _/_, _≤_}
+use Prim.Native.Nat.{_-_, _≤_}
 use mathlib.Core.Path.{_≡_}
-use lib.ListN.{length, take, drop}
+use lib.ListN.{take, drop}
 use Rattle.lists.specs.Lists.{stands}
-use Rattle.evaluator.specs.Pending.{Done}
 use Rattle.evaluator.proofs.Laws as words
-use Rattle.steps.specs.Steps.{markWord}
 use Rattle.steps.proofs.is_among.Statement.{statement}
 use Rattle.steps.proofs.is_among.Tie as tie
 use Rattle.steps.proofs.is_among.Reads as reads
