@@ -1,2 +1,4 @@
 pub mod OrderLaws
 pub mod CardsInForm
+pub mod Items
+pub mod Statements

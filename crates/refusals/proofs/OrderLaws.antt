@@ -95,6 +95,34 @@ module _ {A : Type 0} where
   meets-afterwards c d Q R (Got x) f (n, q) g = meets-right c d R (f x) n (g x refl q)
   meets-afterwards c d Q R (Refused a) f m g = first-left c d a m
 
+-- A result that no condition refuses has whatever follows from that.
+pub meets-keeps : {A : Type 0} (c : Conditions) (Q R : A → Type 0) (r : Outcome A) → Meets c Q r → ((x : A) → NoneOf c → Q x → R x) → Meets c R r
+unfolding Meets
+meets-keeps c Q R (Got x) (n, q) f = (n, f x n q)
+meets-keeps c Q R (Refused a) m f = m
+
+-- ---- the same conditions in other words
+
+-- The answers are the same, and so is what each condition says.
+abbrev pub Alike : Conditions → Conditions → Type 0
+Alike Done Done = Unit
+Alike Done (Try P b ds) = ⊥
+Alike (Try P a cs) Done = ⊥
+Alike (Try P a cs) (Try Q b ds) = (P ↔ Q) × (a ≡ b) × Alike cs ds
+
+pub alike-first : (c d : Conditions) (a : Answer) → Alike c d → FirstOf c a → FirstOf d a
+alike-first (Try P x cs) (Try Q y ds) a (i, e, m) (inl (p, h)) = inl (i .0 p, h ∙ e)
+alike-first (Try P x cs) (Try Q y ds) a (i, e, m) (inr (n, f)) = inr (λ q. n (i .1 q), alike-first cs ds a m f)
+
+pub alike-none : (c d : Conditions) → Alike c d → NoneOf c → NoneOf d
+alike-none Done Done m n = tt
+alike-none (Try P x cs) (Try Q y ds) (i, e, m) (n, ns) = (λ q. n (i .1 q), alike-none cs ds m ns)
+
+pub alike-meets : {A : Type 0} (c d : Conditions) (Q : A → Type 0) (r : Outcome A) → Alike c d → Meets c Q r → Meets d Q r
+unfolding Meets
+alike-meets c d Q (Got x) m (n, q) = (alike-none c d m n, q)
+alike-meets c d Q (Refused a) m f = alike-first c d a m f
+
 -- ---- one by one
 
 module _ {A S : Type 0} (f : ℕ → A → S → Outcome S) (faults : ℕ → List A → A → Conditions) (K : List A → S → Type 0) where
