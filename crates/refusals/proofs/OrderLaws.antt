@@ -160,3 +160,8 @@ pub rising-none : (P : ℕ → Type 0) (b : ℕ → Answer) (k v : ℕ) → ((u 
 unfolding rising
 rising-none P b zero v n = tt
 rising-none P b (suc k) v n = (n v, rising-none P b k (suc v) n)
+
+pub rising-alike : (P Q : ℕ → Type 0) (b : ℕ → Answer) (k v : ℕ) → ((u : ℕ) → P u ↔ Q u) → Alike (rising P b k v) (rising Q b k v)
+unfolding rising
+rising-alike P Q b zero v f = tt
+rising-alike P Q b (suc k) v f = (f v, refl, rising-alike P Q b k (suc v) f)

@@ -33,7 +33,7 @@ true-false e = let z : _≡_ {A = ℕ} 0 1 = cc in absurd (omega arith)
 
 -- ---- the judgement of one item
 
-member-below : (n i : ℕ) → i < n → firstVars n ∋ i
+pub member-below : (n i : ℕ) → i < n → firstVars n ∋ i
 member-below n i h = below-subset n (2 ^ i) (pow-lt h) i (bit-only i)
 
 module _ (n : ℕ) (t : Typed) (q : Equation) where
@@ -99,7 +99,7 @@ typing-unique (s ∷ back) so to (was, i, t, y, n, e) (then, j, u, z, m, f) =
 
 module _ (back : List Statement) (so : Sofar) (t : Typing back so) where
   -- What holds of what was typed, and what holds of something typed.
-  behind-is : (P : Sofar → Type 0) → Behind back P → P so
+  pub behind-is : (P : Sofar → Type 0) → Behind back P → P so
   behind-is P (to, u, p) = subst P (typing-unique back to so u t) p
 
   module _ (s : Statement) (i : Item) (y : Says so (inked (s .field)) i) where

@@ -1,3 +1,4 @@
 pub mod Order
 pub mod CardFaults
 pub mod StatementFaults
+pub mod CardsOrder
