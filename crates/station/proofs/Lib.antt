@@ -1,0 +1,4 @@
+pub mod OneReply
+pub mod Numbered
+pub mod NumberedCards
+pub mod NumberedFrames
