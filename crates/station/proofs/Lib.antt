@@ -2,3 +2,5 @@ pub mod OneReply
 pub mod Numbered
 pub mod NumberedCards
 pub mod NumberedFrames
+pub mod ReplyLaws
+pub mod Demands
