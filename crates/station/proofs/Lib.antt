@@ -4,3 +4,4 @@ pub mod NumberedCards
 pub mod NumberedFrames
 pub mod ReplyLaws
 pub mod Demands
+pub mod Worked
