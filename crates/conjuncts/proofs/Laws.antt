@@ -1,8 +1,8 @@
 -- Laws of the places of conjuncts.
-use mathlib.Core.Path.{_≡_, refl, sym, ap, _∙_, subst}
+use mathlib.Core.Path.{_≡_, refl, sym, ap, ap₂, _∙_, subst}
 use mathlib.Core.Bool.{true, false}
 use mathlib.Core.List.{List, [], _∷_, _++_, append-nil, append-assoc}
-use Prim.Native.Nat.{ℕ, zero, suc, _+_, _-_, _*_, _<_, _≤_}
+use Prim.Native.Nat.{ℕ, zero, suc, _+_, _-_, _*_, _/_, _<_, _≤_}
 use native.Mathlib.Omega.{arith}
 use mir.Val.{Fits}
 use mir.Syntax.{w64}
@@ -16,7 +16,7 @@ use Rattle.logic.specs.Pieces.{split}
 use Rattle.logic.proofs.Codes.{Narrow, nodes-some, length-code}
 use Rattle.terms.specs.Nodes.{part, spans, Stands}
 use Rattle.terms.proofs.Laws.{spans-none}
-use Rattle.terms.proofs.Trees.{spans-code}
+use Rattle.terms.proofs.Trees.{spans-code, stands-within, stands-first, stands-second, part-code}
 use Rattle.conjuncts.specs.Conjuncts.{whole, bounds, Coded, Bounded}
 
 -- ---- how many places
@@ -244,3 +244,67 @@ module _ (code : List ℕ) (offset : ℕ) (row : List ℕ) (used : ℕ) where
                   ∙ splice-splice used xs zs row (omega (arith, c .room))
                   ∙ ap (λ (l : List ℕ). splice used l row) (sym (both-bounds e c)),
             )
+
+-- ---- a whole property
+
+pub length-first : (n : ℕ) (l : List ℕ) → n ≤ length l → n ≡ length (take n l)
+length-first n l h = omega (arith, length-take n l)
+
+pub split-counted : (l row x : List ℕ) (r : ℕ)
+    → ((e : Expr) → Coded e l 0 row 0 → (r ≡ 0 + length (bounds 0 e)) × (x ≡ splice 0 (bounds 0 e) row))
+    → (e : Expr) → Coded e l 0 row 0 → (r / 2 ≡ length (split e)) × (x ≡ splice 0 (bounds 0 e) row)
+split-counted l row x r f e c = (omega (arith, f e c .0, length-bounds 0 e), f e c .1)
+
+-- ---- what the places bound
+
+bounded-more : (l ps qs : List ℕ) (es : List Expr) → Bounded l ps es → Bounded l (ps ++ qs) es
+bounded-more l ps qs [] b = tt
+bounded-more l (p ∷ q ∷ ps) qs (e ∷ es) b = (b .0, bounded-more l ps qs es (b .1))
+
+bounded-append : (l ps qs : List ℕ) (es fs : List Expr) → length ps ≡ 2 * length es → Bounded l ps es → Bounded l qs fs → Bounded l (ps ++ qs) (es ++ fs)
+bounded-append l [] qs [] fs n b c = c
+bounded-append l (p ∷ ps) qs [] fs n b c = absurd (omega arith)
+bounded-append l (p ∷ q ∷ ps) qs (e ∷ es) fs n b c = (b .0, bounded-append l ps qs es fs (omega (arith, n)) (b .1) c)
+
+stands-bounded : (l : List ℕ) (n : ℕ) (e : Expr) → Stands l n e → (n ≤ n + nodes e) × (n + nodes e ≤ length l) × (part n (n + nodes e) l ≡ Expressions.code e)
+stands-bounded l n e s = (omega arith, stands-within l n e s, part-code l n e s)
+
+-- In nodes where the property's code stands the places bound the codes of its conjuncts.
+pub bounds-bounded : (l : List ℕ) (n : ℕ) (e : Expr) → Stands l n e → Bounded l (bounds n e) (split e)
+unfolding bounds split
+bounds-bounded l n (Const b) s = (stands-bounded l n (Const b) s, tt)
+bounds-bounded l n (Var v) s = (stands-bounded l n (Var v) s, tt)
+bounds-bounded l n (One o a) s = (stands-bounded l n (One o a) s, tt)
+bounds-bounded l n (Two And a b) s =
+    bounded-append l (bounds (n + 1) a) (bounds (n + 1 + nodes a) b) (split a) (split b) (length-bounds (n + 1) a)
+    (bounds-bounded l (n + 1) a (stands-first l n And a b s))
+    (bounds-bounded l (n + 1 + nodes a) b (stands-second l n And a b s))
+bounds-bounded l n (Two Or a b) s = (stands-bounded l n (Two Or a b) s, tt)
+bounds-bounded l n (Two Until a b) s = (stands-bounded l n (Two Until a b) s, tt)
+bounds-bounded l n (Two Weak a b) s = (stands-bounded l n (Two Weak a b) s, tt)
+
+pub row-bounded : (l row x : List ℕ) (e : Expr) → Stands l 0 e → x ≡ splice 0 (bounds 0 e) row → Bounded l x (split e)
+row-bounded l row x e s q = subst (λ (ps : List ℕ). Bounded l ps (split e)) (sym q) (bounded-more l (bounds 0 e) (drop (0 + length (bounds 0 e)) row) (split e) (bounds-bounded l 0 e s))
+
+-- The code of conjunct i, and its bounds.
+pub record BoundsAt (l ps : List ℕ) (e : Expr) (i : ℕ) : Type 0 where
+  pub in-order : getD ps (2 * i) 0 ≤ getD ps (2 * i + 1) 0
+  pub within : getD ps (2 * i + 1) 0 ≤ length l
+  pub bounded : part (getD ps (2 * i) 0) (getD ps (2 * i + 1) 0) l ≡ Expressions.code e
+  pub there : 2 * i + 1 < length ps
+
+pub bounded-at : (l ps : List ℕ) (es : List Expr) (i : ℕ) → Bounded l ps es → i < length es → BoundsAt l ps (getD es i (Const false)) i
+bounded-at l ps [] i b h = absurd (omega arith)
+bounded-at l (p ∷ q ∷ ps) (e ∷ es) zero b h = record { in-order = b .0 .0; within = b .0 .1; bounded = b .0 .2; there = omega arith }
+bounded-at l (p ∷ q ∷ ps) (e ∷ es) (suc i) b h =
+    let rest = bounded-at l ps es i (b .1) (omega arith) in
+    let even : 2 * suc i ≡ suc (suc (2 * i)) = omega arith in
+    let odd : 2 * suc i + 1 ≡ suc (suc (2 * i + 1)) = omega arith in
+    let from : getD (p ∷ q ∷ ps) (2 * suc i) 0 ≡ getD ps (2 * i) 0 = ap (λ (k : ℕ). getD (p ∷ q ∷ ps) k 0) even in
+    let to : getD (p ∷ q ∷ ps) (2 * suc i + 1) 0 ≡ getD ps (2 * i + 1) 0 = ap (λ (k : ℕ). getD (p ∷ q ∷ ps) k 0) odd in
+    record {
+      in-order = omega (arith, from, to, rest .in-order);
+      within = omega (arith, to, rest .within);
+      bounded = ap₂ (λ (f t : ℕ). part f t l) from to ∙ rest .bounded;
+      there = omega (arith, rest .there);
+    }

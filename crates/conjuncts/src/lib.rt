@@ -2,10 +2,10 @@
 ghost use mathlib.Core.Path.{_≡_};
 ghost use mathlib.Core.List.{List, [], _∷_, _++_};
 ghost use Prim.Native.Nat.{ℕ, _+_, _<_, _≤_};
-ghost use lib.ListN.{length, take, set as put};
+ghost use lib.ListN.{length, take, getD, set as put};
 ghost use Rattle.lists.specs.Lists.{stands, firsts, splice};
 ghost use Rattle.logic.specs.Expressions.{Expr};
-ghost use Rattle.logic.specs.Pieces.{projected};
+ghost use Rattle.logic.specs.Pieces.{split as conjunctsOf, projected};
 ghost use Rattle.conjuncts.specs.Conjuncts.{bounds, Coded};
 
 // A place stored in a row.
@@ -30,6 +30,29 @@ pub fn split(code: &[u16], offset: usize, row: &mut [u16], used: usize) -> usize
     let second = terms::second(code, 0);
     let n = split(&code[1..second], offset + 1, row, used);
     split(&code[second..], offset + second, row, n)
+}
+
+// The same for a property from its first node on, and how many conjuncts it has.
+pub fn split_property(property: &[u16], size: usize, row: &mut [u16]) -> usize
+    requires { ⌜ (size ≤ length (now property)) × ((e : Expr) × Coded e (take size (now property)) 0 (now row) 0) ⌝ }
+    ensures { λ r. ⌜ ((e : Expr) → Coded e (take size (now (property .entry))) 0 (now (row .entry)) 0 → (r ≡ length (conjunctsOf e)) × (now (row .exit) ≡ splice 0 (bounds 0 e) (now (row .entry)))) ⌝ }
+{
+    let used = split(&property[..size], 0, row, 0);
+    used / 2
+}
+
+fn wide(place: u16) -> usize
+    ensures { λ r. ⌜ r ≡ place ⌝ }
+{
+    place as usize
+}
+
+// Place i of a row.
+pub fn place_at(row: &[u16], i: usize) -> usize
+    requires { ⌜ i < length (now row) ⌝ }
+    ensures { λ r. ⌜ r ≡ getD (now (row .entry)) i 0 ⌝ }
+{
+    wide(row[i])
 }
 
 // Whether s stands among the first n states of the row.
