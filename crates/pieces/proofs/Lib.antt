@@ -1,0 +1,3 @@
+pub mod Piece
+pub mod All
+pub mod Stored
