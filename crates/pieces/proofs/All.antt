@@ -216,7 +216,7 @@ module _ (deps inits : List ℕ) (initials : ℕ) (lefts ends nodes : List ℕ) 
             let more : firstBytes D (i + 1) ≡ firstBytes D i ++ deckFrames p = one-more D i (omega (arith, b .count-is)) in (
               omega (arith, before .0, done .0, ap length more, length-append (firstBytes D i) (deckFrames p)),
               splice-rest used (deckFrames p) out y (done .1)
-              ∙ ap₂ (λ (k : ℕ) (l : List ℕ). splice k (deckFrames p) l) behind (before .1)
-              ∙ splice-splice 0 (firstBytes D i) (deckFrames p) out₀ (omega arith)
-              ∙ ap (λ (l : List ℕ). splice 0 l out₀) (sym more),
+                  ∙ ap₂ (λ (k : ℕ) (l : List ℕ). splice k (deckFrames p) l) behind (before .1)
+                  ∙ splice-splice 0 (firstBytes D i) (deckFrames p) out₀ (omega arith)
+                  ∙ ap (λ (l : List ℕ). splice 0 l out₀) (sym more),
             )

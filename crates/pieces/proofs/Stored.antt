@@ -7,7 +7,7 @@ use native.Mathlib.Omega.{arith}
 use borrow.Author.Tests.{lt-ltb, le-ltb}
 use lib.ListN.{length, take, replicate}
 use Rattle.lists.specs.Lists.{padded, splice}
-use Rattle.lists.proofs.Laws.{take-padded, length-padded}
+use Rattle.lists.proofs.Laws.{take-padded, length-padded, length-splice}
 use Rattle.logic.specs.Expressions.{Expr, code}
 use Rattle.logic.specs.Expressions as Expressions
 use Rattle.logic.specs.Decks.{Equation, Deck, Accepted, base}
@@ -92,6 +92,11 @@ module _ (d : Stored) (D : Deck) (a : Accepted base D) (e : d ≡ stored D) wher
           count-is = places .0;
         }
 
+    pub row-long : 128 ≡ length row
+    row-long =
+        let places = s (D .property) (property-coded row₀ long) in
+        omega (arith, ap length (places .1), length-splice 0 (bounds 0 (D .property)) row₀ (property-coded row₀ long .room), long)
+
     pub bound-some : (E : Deck) × Bound E deps (d .inits) (d .initials) (d .lefts) (d .ends) (d .nodes) (d .equations) (d .property) row count
     bound-some = (D, stored-bound)
 
@@ -110,6 +115,9 @@ module _ (d : Stored) (D : Deck) (a : Accepted base D) (e : d ≡ stored D) wher
 -- ---- what is answered
 
 module _ (D : Deck) (needed : ℕ) (out : List ℕ) (q : needed ≡ length (pieceBytes D)) where
+  pub room-there : needed ≤ length out → length (pieceBytes D) ≤ length out
+  room-there h = omega (arith, q, h)
+
   pub refused-answer : length out < needed → record { answer = NoRoom needed; pieces = 0; bytes = 0 } ≡ reduced D (length out)
   unfolding reduced
   refused-answer h = rw q (sym (simp (lt-ltb (length out) (length (pieceBytes D)) (omega (arith, q, h)), reduced)))

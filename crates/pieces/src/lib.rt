@@ -39,7 +39,18 @@ fn piece_size<'a>(
     let cone = cones::closing(deps, terms::written_in(property, from, to));
     let mut states = [0u64; decks::INITIALS];
     let n = conjuncts::project(inits, initials, cone, &mut states);
-    texts::frames_size(cone, &states, n, lefts, ends, nodes, equations, property, from, to)
+    texts::frames_size(
+        cone,
+        &states,
+        n,
+        lefts,
+        ends,
+        nodes,
+        equations,
+        property,
+        from,
+        to,
+    )
 }
 
 // The piece of the conjunct from..to into a buffer, and how many bytes it filled.
@@ -63,7 +74,17 @@ fn write_piece<'a>(
     let mut states = [0u64; decks::INITIALS];
     let n = conjuncts::project(inits, initials, cone, &mut states);
     texts::write_frames(
-        cone, &states, n, lefts, ends, nodes, equations, property, from, to, out,
+        cone,
+        &states,
+        n,
+        lefts,
+        ends,
+        nodes,
+        equations,
+        property,
+        from,
+        to,
+        out,
     )
 }
 
@@ -89,7 +110,16 @@ fn pieces_size<'a>(
         let from = conjuncts::place_at(bounds, 2 * i);
         let to = conjuncts::place_at(bounds, 2 * i + 1);
         n += piece_size(
-            deps, inits, initials, lefts, ends, nodes, equations, property, from, to,
+            deps,
+            inits,
+            initials,
+            lefts,
+            ends,
+            nodes,
+            equations,
+            property,
+            from,
+            to,
         );
         i += 1;
     }
