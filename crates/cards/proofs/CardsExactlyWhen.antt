@@ -54,7 +54,7 @@ unfolding placed every
 placed-every t zero i card f = refl
 placed-every t (suc k) i card f = simp (f i (omega arith) (omega arith), every) (placed-every t k (suc i) card (λ j l h. f j (omega arith) (omega arith)))
 
-column-every : (t : ℕ → Bool) (a b : ℕ) (card : List ℕ) → 1 ≤ a → ((c : ℕ) → a ≤ c → c ≤ b → t (punched card c) ≡ true) → every t (columns a b card) ≡ true
+pub column-every : (t : ℕ → Bool) (a b : ℕ) (card : List ℕ) → 1 ≤ a → ((c : ℕ) → a ≤ c → c ≤ b → t (punched card c) ≡ true) → every t (columns a b card) ≡ true
 column-every t a b card h f =
     ap (every t) (columns-placed a b card)
     ∙ placed-every t (suc b - a) (a - 1) card (λ j l m. let e : suc j - 1 ≡ j = omega arith in subst (λ (i : ℕ). t (getD card i blank) ≡ true) e (f (suc j) (omega arith) (omega arith)))

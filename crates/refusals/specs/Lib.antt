@@ -1,0 +1,4 @@
+pub mod Order
+pub mod CardFaults
+pub mod StatementFaults
+pub mod CardsOrder
