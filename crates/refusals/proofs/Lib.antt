@@ -4,4 +4,5 @@ pub mod Items
 pub mod Statements
 pub mod Lacking
 pub mod CardsRefused
+pub mod PairsDeep
 pub mod RefusedExactlyWhen

@@ -5,6 +5,7 @@ use mathlib.Core.Bool.{Bool, true, false, not}
 use mathlib.Core.List.{List, [], _∷_}
 use Prim.Native.Nat.{ℕ, zero, suc, _+_, _<_, _≤_}
 use native.Mathlib.Omega.{arith}
+use lib.ListN.{length}
 use native.Mathlib.Decide.{ℕ-discrete}
 use Rattle.decks.specs.declared.Answer.{Answer}
 use Rattle.decks.specs.Answers.{Outcome, Got, Refused, refuse, afterwards}
@@ -126,15 +127,18 @@ alike-meets c d Q (Refused a) m f = alike-first c d a m f
 -- ---- one by one
 
 module _ {A S : Type 0} (f : ℕ → A → S → Outcome S) (faults : ℕ → List A → A → Conditions) (K : List A → S → Type 0) where
-  -- A walk whose every member meets its conditions, from what those before it came to.
-  pub meets-walk : ((n : ℕ) (back : List A) (x : A) (s : S) → K back s → Meets (faults n back x) (K (x ∷ back)) (f n x s))
-      → (xs : List A) (n : ℕ) (back : List A) (s : S)
+  -- A walk whose every member meets its conditions, from what those before it came to. Member n has n - 1 before it.
+  pub meets-walk : ((back : List A) (x : A) (s : S) → K back s → Meets (faults (suc (length back)) back x) (K (x ∷ back)) (f (suc (length back)) x s))
+      → (xs back : List A) (s : S)
       → K back s
-      → Meets (oneByOne faults n back xs) (K (backwards back xs)) (walk f n xs s)
+      → Meets (oneByOne faults (suc (length back)) back xs) (K (backwards back xs)) (walk f (suc (length back)) xs s)
   unfolding Meets oneByOne backwards walk
-  meets-walk step [] n back s k = (tt, k)
-  meets-walk step (x ∷ xs) n back s k = go (f n x s) refl (step n back x s k) (λ t h. meets-walk step xs (suc n) (x ∷ back) t h)
+  meets-walk step [] back s k = (tt, k)
+  meets-walk step (x ∷ xs) back s k = go (f n x s) refl (step back x s k) (λ t h. meets-walk step xs (x ∷ back) t h)
     where
+      n : ℕ
+      n = suc (length back)
+
       rest : Conditions
       rest = oneByOne faults (suc n) (x ∷ back) xs
 

@@ -2,3 +2,4 @@ pub mod Order
 pub mod CardFaults
 pub mod StatementFaults
 pub mod CardsOrder
+pub mod FrameFaults
