@@ -158,9 +158,8 @@ fn write_pieces<'a>(
     let mut i = 0;
     let mut used = 0;
     while i < count {
-        let conjunct = i;
-        let from = conjuncts::place_at(bounds, 2 * conjunct);
-        let to = conjuncts::place_at(bounds, 2 * conjunct + 1);
+        let from = conjuncts::place_at(bounds, 2 * i);
+        let to = conjuncts::place_at(bounds, 2 * i + 1);
         let n = write_piece(
             deps,
             inits,
