@@ -5,4 +5,5 @@ pub mod Statements
 pub mod Lacking
 pub mod CardsRefused
 pub mod PairsDeep
+pub mod Frames
 pub mod RefusedExactlyWhen
