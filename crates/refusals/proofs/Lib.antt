@@ -6,4 +6,6 @@ pub mod Lacking
 pub mod CardsRefused
 pub mod PairsDeep
 pub mod Frames
+pub mod FramesRefused
+pub mod ClaimsRefused
 pub mod RefusedExactlyWhen
