@@ -3,7 +3,7 @@ use mathlib.Core.Path.{_≡_, refl, sym, ap, _∙_}
 use mathlib.Core.Logic.{by-cases}
 use mathlib.Core.Bool.{Bool, true, false}
 use mathlib.Core.List.{List}
-use Prim.Native.Nat.{ℕ, zero, suc, _+_, _*_, _-_, _/_, _%_, _^_, _<_, _≤_, min, max}
+use Prim.Native.Nat.{ℕ, suc, _+_, _-_, _^_, _<_, _≤_, min, max}
 use native.Mathlib.Omega.{arith}
 use native.Mathlib.Decide.{ℕ-discrete}
 use borrow.Author.Tests.{lt-ltb, le-ltb}
@@ -11,7 +11,7 @@ use lib.ListN.{length, getD, set, length-set, List·getD-eq-default}
 use lib.Seq.{getD-set-same, getD-set-other}
 use Rattle.sets.specs.Sets.{bit, has}
 use Rattle.sets.proofs.Laws.{true-has, false-has, not-in}
-use Rattle.evaluator.specs.Pending.{top, second, pushed, topped, joined, Done, All, Swept, Below, sweep, seconds, tops, following, variableWord, nextWord, settled, sweptWord}
+use Rattle.evaluator.specs.Pending.{top, second, pushed, topped, joined, Done, Swept, Below, sweep, seconds, tops, following, variableWord, nextWord, settled, sweptWord}
 
 module _ (f : ℕ → ℕ → ℕ) (old : List ℕ) where
   pub done-none : Done f 0 old old

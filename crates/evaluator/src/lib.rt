@@ -250,6 +250,6 @@ pub fn weak(words: &mut [u64], p: usize)
     ensures { λ _. ⌜ All (sweptWord (settled p 1 (now (words .entry))) (now (words .entry))) (now (words .entry)) (now (words .exit)) ⌝ }
 {
     let ever = 1;
-    let v = settle(words, p, ever);
-    sweep(words, v);
+    let u = settle(words, p, ever);
+    sweep(words, u);
 }

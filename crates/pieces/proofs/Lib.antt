@@ -1,0 +1,4 @@
+pub mod Piece
+pub mod All
+pub mod Stored
+pub mod Theorems

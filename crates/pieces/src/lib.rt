@@ -1,9 +1,216 @@
-// Splitting the property, and all reduced decks written.
+// All reduced decks of a deck, written one behind the other.
 use decks::Answer;
+ghost use mathlib.Core.Path.{_≡_};
+ghost use mathlib.Core.List.{List};
+ghost use Prim.Native.Nat.{ℕ, _≤_};
+ghost use lib.ListN.{length};
+ghost use Rattle.lists.specs.Lists.{splice};
+ghost use Rattle.logic.specs.Expressions.{Expr};
+ghost use Rattle.logic.specs.Decks.{Deck, Accepted, base};
+ghost use Rattle.logic.specs.Pieces.{piece};
+ghost use Rattle.decks.specs.Stored.{stored};
+ghost use Rattle.frames.specs.Written.{deckFrames};
+ghost use Rattle.pieces.specs.Laid.{Placed, Bound};
+ghost use Rattle.pieces.specs.Reduced.{pieceBytes, reduced, reducedInto};
 
 // What a reduction answers.
 pub struct Reduced {
     pub answer: Answer,
     pub pieces: usize,
     pub bytes: usize,
+}
+
+// The bytes of the piece of the conjunct from..to.
+fn piece_size<'a>(
+    deps: &'a [u64],
+    inits: &'a [u64],
+    initials: usize,
+    lefts: &'a [u16],
+    ends: &'a [u16],
+    nodes: &'a [u16],
+    equations: usize,
+    property: &'a [u16],
+    from: usize,
+    to: usize,
+) -> usize
+    requires { ⌜ ((D : Deck) × (e : Expr) × Placed D e (now deps) (now inits) initials (now lefts) (now ends) (now nodes) equations (now property) from to) ⌝ }
+    ensures { λ r. ⌜ ((D : Deck) (e : Expr) → Placed D e (now (deps .entry)) (now (inits .entry)) initials (now (lefts .entry)) (now (ends .entry)) (now (nodes .entry)) equations (now (property .entry)) from to → r ≡ length (deckFrames (piece D e))) ⌝ }
+{
+    let cone = cones::closing(deps, terms::written_in(property, from, to));
+    let mut states = [0u64; decks::INITIALS];
+    let n = conjuncts::project(inits, initials, cone, &mut states);
+    texts::frames_size(
+        cone,
+        &states,
+        n,
+        lefts,
+        ends,
+        nodes,
+        equations,
+        property,
+        from,
+        to,
+    )
+}
+
+// The piece of the conjunct from..to into a buffer, and how many bytes it filled.
+fn write_piece<'a>(
+    deps: &'a [u64],
+    inits: &'a [u64],
+    initials: usize,
+    lefts: &'a [u16],
+    ends: &'a [u16],
+    nodes: &'a [u16],
+    equations: usize,
+    property: &'a [u16],
+    from: usize,
+    to: usize,
+    out: &mut [u8],
+) -> usize
+    requires { ⌜ ((D : Deck) × (e : Expr) × Placed D e (now deps) (now inits) initials (now lefts) (now ends) (now nodes) equations (now property) from to × (length (deckFrames (piece D e)) ≤ length (now out))) ⌝ }
+    ensures { λ r. ⌜ ((D : Deck) (e : Expr) → Placed D e (now (deps .entry)) (now (inits .entry)) initials (now (lefts .entry)) (now (ends .entry)) (now (nodes .entry)) equations (now (property .entry)) from to → (r ≡ length (deckFrames (piece D e))) × (now (out .exit) ≡ splice 0 (deckFrames (piece D e)) (now (out .entry)))) ⌝ }
+{
+    let cone = cones::closing(deps, terms::written_in(property, from, to));
+    let mut states = [0u64; decks::INITIALS];
+    let n = conjuncts::project(inits, initials, cone, &mut states);
+    texts::write_frames(
+        cone,
+        &states,
+        n,
+        lefts,
+        ends,
+        nodes,
+        equations,
+        property,
+        from,
+        to,
+        out,
+    )
+}
+
+// The bytes of all pieces.
+fn pieces_size<'a>(
+    deps: &'a [u64],
+    inits: &'a [u64],
+    initials: usize,
+    lefts: &'a [u16],
+    ends: &'a [u16],
+    nodes: &'a [u16],
+    equations: usize,
+    property: &'a [u16],
+    bounds: &'a [u16],
+    count: usize,
+) -> usize
+    requires { ⌜ ((D : Deck) × Bound D (now deps) (now inits) initials (now lefts) (now ends) (now nodes) equations (now property) (now bounds) count) ⌝ }
+    ensures { λ r. ⌜ ((D : Deck) → Bound D (now (deps .entry)) (now (inits .entry)) initials (now (lefts .entry)) (now (ends .entry)) (now (nodes .entry)) equations (now (property .entry)) (now (bounds .entry)) count → r ≡ length (pieceBytes D)) ⌝ }
+{
+    let mut i = 0;
+    let mut n = 0;
+    while i < count {
+        let from = conjuncts::place_at(bounds, 2 * i);
+        let to = conjuncts::place_at(bounds, 2 * i + 1);
+        n += piece_size(
+            deps,
+            inits,
+            initials,
+            lefts,
+            ends,
+            nodes,
+            equations,
+            property,
+            from,
+            to,
+        );
+        i += 1;
+    }
+    n
+}
+
+// All pieces, each into the part of the buffer that the earlier ones left free, and their bytes.
+fn write_pieces<'a>(
+    deps: &'a [u64],
+    inits: &'a [u64],
+    initials: usize,
+    lefts: &'a [u16],
+    ends: &'a [u16],
+    nodes: &'a [u16],
+    equations: usize,
+    property: &'a [u16],
+    bounds: &'a [u16],
+    count: usize,
+    out: &mut [u8],
+) -> usize
+    requires { ⌜ ((D : Deck) × Bound D (now deps) (now inits) initials (now lefts) (now ends) (now nodes) equations (now property) (now bounds) count × (length (pieceBytes D) ≤ length (now out))) ⌝ }
+    ensures { λ r. ⌜ ((D : Deck) → Bound D (now (deps .entry)) (now (inits .entry)) initials (now (lefts .entry)) (now (ends .entry)) (now (nodes .entry)) equations (now (property .entry)) (now (bounds .entry)) count → length (pieceBytes D) ≤ length (now (out .entry)) → (r ≡ length (pieceBytes D)) × (now (out .exit) ≡ splice 0 (pieceBytes D) (now (out .entry)))) ⌝ }
+{
+    let mut i = 0;
+    let mut used = 0;
+    while i < count {
+        let from = conjuncts::place_at(bounds, 2 * i);
+        let to = conjuncts::place_at(bounds, 2 * i + 1);
+        let n = write_piece(
+            deps,
+            inits,
+            initials,
+            lefts,
+            ends,
+            nodes,
+            equations,
+            property,
+            from,
+            to,
+            &mut out[used..],
+        );
+        used += n;
+        i += 1;
+    }
+    used
+}
+
+// All pieces of a deck into a buffer; 17 with the bytes of all of them, and no byte changed, where it has no room.
+pub fn reduce(d: decks::Deck, out: &mut [u8]) -> Reduced
+    requires { ⌜ ((D : Deck) × Accepted base D × (d ≡ stored D)) ⌝ }
+    ensures { λ r. ⌜ ((D : Deck) → Accepted base D → d ≡ stored D → (r ≡ reduced D (length (now (out .entry)))) × (now (out .exit) ≡ reducedInto D (now (out .entry)))) ⌝ }
+{
+    let mut bounds = [0u16; decks::PROPERTY_NODES];
+    let count = conjuncts::split_property(&d.property, d.size, &mut bounds);
+    let mut deps = [0u64; decks::VARIABLES];
+    cones::dependencies(&d.lefts, &d.ends, &d.nodes, d.equations, &mut deps);
+    let needed = pieces_size(
+        &deps,
+        &d.inits,
+        d.initials,
+        &d.lefts,
+        &d.ends,
+        &d.nodes,
+        d.equations,
+        &d.property,
+        &bounds,
+        count,
+    );
+    if out.len() < needed {
+        return Reduced {
+            answer: Answer::NoRoom(needed as u64),
+            pieces: 0,
+            bytes: 0,
+        };
+    }
+    let n = write_pieces(
+        &deps,
+        &d.inits,
+        d.initials,
+        &d.lefts,
+        &d.ends,
+        &d.nodes,
+        d.equations,
+        &d.property,
+        &bounds,
+        count,
+        out,
+    );
+    Reduced {
+        answer: Answer::Fine,
+        pieces: count,
+        bytes: n,
+    }
 }

@@ -1,29 +1,28 @@
 -- Laws of the statement in hand and of the walk from statement to statement.
-use mathlib.Core.Path.{_≡_, refl, sym, ap, ap₂, _∙_, subst}
+use mathlib.Core.Path.{_≡_, refl, sym, ap, _∙_, subst}
 use mathlib.Core.Bool.{Bool, true, false, not, _&&_, _||_}
-use mathlib.Core.List.{List, [], _∷_, _++_, append-assoc, append-nil}
+use mathlib.Core.List.{List, [], _∷_, _++_, append-assoc}
 use Prim.Native.Nat.{ℕ, zero, suc, _+_, _-_, _*_, _<_, _≤_}
 use native.Mathlib.Omega.{arith}
 use native.Mathlib.Numerals.{add-one}
 use lib.Dec.{ltb}
 use lib.ListN.{length, take, drop, getD, set, replicate, length-append, length-take, length-drop, length-replicate, drop-of-length-le}
-use lib.Seq.{take-all, take-suc, drop-append-le, drop-at, drop-drop}
+use lib.Seq.{take-all, take-suc, drop-at, drop-drop}
 use borrow.Author.Tests.{ltb-false}
 use Rattle.lists.specs.Lists.{padded, splice, ended, unended}
 use Rattle.lists.proofs.Laws.{padded-snoc, take-padded, splice-nothing, splice-splice, set-splice, length-splice}
 use Rattle.decks.specs.declared.Answer.{Answer}
-use Rattle.decks.specs.declared.Answer.the-variants.{BadByte, TooWide, BadStart, BadNumber, NoneOpen, TooManyCards}
+use Rattle.decks.specs.declared.Answer.the-variants.{BadByte, TooWide, BadStart, BadNumber, TooManyCards}
 use Rattle.decks.specs.Answers.{Outcome, Got, Refused, refuse}
 use Rattle.decks.specs.Readings.{walk}
-use Rattle.cards.specs.Card.{cardsOf, blank, cardColumns, every, isBlank, isComment, printable, numbered, fieldStart, fieldEnd, fieldColumns, column, columns, continuations, Kind, Comment, Empty, Opening, Continuing, kindOf, closes, Open, Shut, Continued, opened, cardInForm}
-use Rattle.cards.specs.Statement.{Statement, Hand, Nothing, Held, laid, gathered, fieldOf, folded}
+use Rattle.cards.specs.Card.{cardsOf, blank, cardColumns, every, isBlank, isComment, printable, numbered, fieldStart, fieldEnd, column, columns, continuations, Kind, Comment, Empty, Opening, Continuing, kindOf, closes, Open, Shut, Continued, opened, cardInForm}
+use Rattle.cards.specs.Statement.{Statement, Nothing, Held, laid, gathered, fieldOf, folded}
 use Rattle.firstpass.specs.declared.CardKind.{CardKind}
 use Rattle.firstpass.specs.declared.CardKind.the-variants.{Continuing as ContinuingCard}
 use Rattle.firstpass.specs.Passed.{lineLength, kindIs}
 use Rattle.firstpass.proofs.Laws.{cards-next, field-filled}
 use Rattle.statements.specs.declared.Stmt.{Stmt}
-use Rattle.statements.specs.declared.Taken.{Taken}
-use Rattle.statements.specs.Hold.{characters, statementCards, held, stmtOf, Room, filled, withCard, foldedIn, opens, Formed, cardAt, AtOpening, FirstOf, Takes}
+use Rattle.statements.specs.Hold.{characters, held, stmtOf, Room, filled, withCard, foldedIn, opens, Formed, AtOpening, FirstOf, Takes}
 
 -- ---- a field put behind those in hand
 

@@ -2,10 +2,9 @@
 ghost use mathlib.Core.Path.{_≡_};
 ghost use mathlib.Core.Bool.{_||_};
 ghost use mathlib.Core.List.{[]};
-ghost use Prim.Native.Nat.{ℕ, _+_, _-_, _<_, _≤_};
+ghost use Prim.Native.Nat.{_+_, _≤_};
 ghost use lib.ListN.{length, drop};
-ghost use Rattle.cards.specs.Card.{cardsOf, fieldColumns, closes, kindOf, Continuing};
-ghost use Rattle.cards.specs.Statement.{gathered, Nothing, fieldOf};
+ghost use Rattle.cards.specs.Card.{cardsOf, fieldColumns, closes, Continuing};
 ghost use Rattle.firstpass.specs.Passed.{kindIs};
 ghost use Rattle.statements.specs.Hold.{held, Room, withCard, foldedIn, opens, Formed, AtOpening, Takes};
 use firstpass::CardKind;

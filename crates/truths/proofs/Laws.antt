@@ -1,13 +1,12 @@
 -- The truth of an expression from those of its operands, node by node.
-use mathlib.Core.Path.{_≡_, refl, sym, ap, _∙_, subst}
-use mathlib.Core.Bool.{Bool, true, false}
+use mathlib.Core.Path.{_≡_, refl, sym, ap, _∙_}
+use mathlib.Core.Bool.{true, false}
 use mathlib.Core.List.{List}
-use Prim.Native.Nat.{ℕ, zero, suc, _+_, _*_, _-_, _/_, _%_, _^_, _<_, _≤_, min, max}
+use Prim.Native.Nat.{ℕ, suc, _+_, _-_, _<_, _≤_, min, max}
 use native.Mathlib.Omega.{arith}
 use lib.ListN.{length, drop, getD}
 use lib.Pow.{pow-mono}
-use Rattle.sets.specs.Sets.{bit}
-use Rattle.logic.specs.Expressions.{Expr, Const, Var, One, Two, Op1, Op2, Not, Next, Future, Always, And, Or, Until, Weak, node1, node2, nodes, levels}
+use Rattle.logic.specs.Expressions.{Expr, Const, Var, One, Two, Op2, Not, Next, Future, Always, And, Or, Until, Weak, levels}
 use Rattle.logic.specs.Decks.{Limits}
 use Rattle.logic.specs.Meaning.{Claim, Sized}
 use Rattle.logic.specs.Verdicts.{truth}
@@ -15,7 +14,7 @@ use Rattle.logic.proofs.Codes.{nodes-some, levels-some}
 use Rattle.logic.proofs.Verdict.{truth-lt}
 use Rattle.terms.specs.Nodes.{placesOf, spans, Stands}
 use Rattle.terms.proofs.Trees.{headNode, places-const, places-var, places-one, places-two, stands-node, stands-within, stands-end, stands-operand, stands-first, stands-second}
-use Rattle.evaluator.specs.Pending.{top, second, pushed, topped, joined, Done, All, Below, settled, variableWord, nextWord, sweptWord}
+use Rattle.evaluator.specs.Pending.{top, second, pushed, topped, joined, All, Below, settled, variableWord, nextWord, sweptWord}
 use Rattle.truths.specs.Worked.{claimOf, operands, truthWord, Worked, Leaf, Applied1, Applied2, Ready, Evaluated}
 use Rattle.truths.proofs.Operators.{all-as, not-worked, next-worked, future-worked, always-worked, and-worked, or-worked, until-worked, weak-worked}
 

@@ -1,19 +1,17 @@
 -- What each operator makes of pending values that are truths.
 use mathlib.Core.Path.{_≡_, refl, sym, ap, ap₂, _∙_}
-use mathlib.Core.Bool.{Bool, true, false}
+use mathlib.Core.Bool.{true, false}
 use mathlib.Core.List.{List}
-use Prim.Native.Nat.{ℕ, zero, suc, _+_, _*_, _-_, _/_, _%_, _^_, _<_, _≤_, min, max}
+use Prim.Native.Nat.{ℕ, zero, suc, _+_, _-_, _/_, _<_, _≤_, min, max}
 use native.Mathlib.Omega.{arith}
 use lib.ListN.{length, getD, List·getD-eq-default}
-use Rattle.sets.specs.Sets.{bit}
-use Rattle.logic.specs.Expressions.{Expr, Const, Var, One, Two, Op1, Op2, Not, Next, Future, Always, And, Or, Until, Weak, digit, node1, node2}
+use Rattle.logic.specs.Expressions.{Expr, Const, One, Two, Not, Next, Future, Always, And, Or, Until, Weak}
 use Rattle.logic.specs.Decks.{Limits}
-use Rattle.logic.specs.Meaning.{Claim, Sized, stateOf, follower, position, claimRun}
+use Rattle.logic.specs.Meaning.{Claim, Sized, follower}
 use Rattle.logic.specs.Verdicts.{unrolled, truth}
 use Rattle.logic.proofs.Verdict.{follower-next, follower-last, follower-lt, truth-lt, truth-is, until-enough, weak-enough}
-use Rattle.terms.proofs.Trees.{headNode}
-use Rattle.evaluator.specs.Pending.{top, second, pushed, topped, joined, Done, All, Below, sweep, seconds, tops, following, variableWord, nextWord, settled, sweptWord}
-use Rattle.truths.specs.Worked.{operands, truthWord, Worked, Leaf, Applied1, Applied2}
+use Rattle.evaluator.specs.Pending.{top, second, pushed, topped, joined, All, sweep, seconds, tops, following, nextWord, settled, sweptWord}
+use Rattle.truths.specs.Worked.{truthWord, Worked}
 
 -- ---- one pass after the other
 

@@ -1,8 +1,8 @@
-use Prim.Native.Nat.{_+_, _-_, _<_, _≤_}
+use Prim.Native.Nat.{_-_, _<_}
 use mathlib.Core.Path.{_≡_}
 use lib.ListN.{length, getD}
 use borrow.Author.Needs.{needs}
-use Rattle.evaluator.specs.Pending.{Done, variableWord, nextWord}
+use Rattle.evaluator.specs.Pending.{Done, nextWord}
 use Rattle.evaluator.proofs.Laws as laws
 use Rattle.evaluator.proofs.next.Statement.{statement}
 use Rattle.evaluator.proofs.next.Tie as tie

@@ -1,8 +1,7 @@
-use Prim.Native.Nat.{_+_, _-_, _<_, _≤_}
-use mathlib.Core.Path.{_≡_}
-use lib.ListN.{length, getD}
+use Prim.Native.Nat.{_-_, _≤_}
+use lib.ListN.{length}
 use borrow.Author.Needs.{needs}
-use Rattle.evaluator.specs.Pending.{Done, variableWord, nextWord}
+use Rattle.evaluator.specs.Pending.{Done, variableWord}
 use Rattle.evaluator.proofs.Laws as laws
 use Rattle.evaluator.proofs.push_variable.Statement.{statement}
 use Rattle.evaluator.proofs.push_variable.Tie as tie

@@ -1,9 +1,8 @@
 use borrow.Author.Needs.{needs}
-use Prim.Native.Nat.{_+_, _-_, _<_, _≤_}
-use native.Mathlib.Omega.{arith}
-use mathlib.Core.Path.{_≡_, refl}
-use lib.ListN.{length, getD}
-use Rattle.evaluator.specs.Pending.{seconds, tops, Done, Swept, sweep, nextWord, sweptWord}
+use Prim.Native.Nat.{_-_, _<_, _≤_}
+use mathlib.Core.Path.{_≡_}
+use lib.ListN.{length}
+use Rattle.evaluator.specs.Pending.{seconds, tops, Swept, sweep, sweptWord}
 use Rattle.evaluator.proofs.Laws as laws
 use Rattle.evaluator.proofs.sweep.Statement.{statement}
 use Rattle.evaluator.proofs.sweep.Tie as tie

@@ -1,7 +1,5 @@
 use Rattle.statements.proofs.appended.Statement.{statement}
 use Rattle.statements.proofs.appended.Tie as tie
-use Rattle.statements.proofs.appended.Reads as reads
-use Rattle.statements.proofs.appended.Lts as lts
 use mathlib.Core.Path.{_≡_}
 use Prim.Native.Nat.{_+_, _-_, _≤_}
 use lib.ListN.{length, take}
@@ -16,55 +14,42 @@ Inv-loop n field at last chars₀ cards i₀ chars i = (i ≤ 66) × (length cha
 abbrev μ-loop : tie.MeasureT-loop
 μ-loop n field at last chars₀ cards i₀ chars i = 66 - i
 
--- src/lib.rt:60:5
 loop-holds : tie.Need-loop-holds Inv-loop μ-loop
 loop-holds c = search (needs, laws.fill-none, length-unmapped)
 
--- src/lib.rt:61:31
 add-column : tie.Need-add-column Inv-loop μ-loop
 add-column c = search needs
 
--- src/lib.rt:61:13
 column-requires : tie.Need-column-requires Inv-loop μ-loop
 column-requires c κs = search needs
 
--- src/lib.rt:62:15
 add-chars : tie.Need-add-chars Inv-loop μ-loop
 add-chars c = search needs
 
--- src/lib.rt:62:9
 array-write-chars : tie.Need-array-write-chars Inv-loop μ-loop
 array-write-chars c = search needs
 
--- src/lib.rt:63:9
 add-i : tie.Need-add-i Inv-loop μ-loop
 add-i c = search needs
 
--- src/lib.rt:60:5
 loop-less : tie.Need-loop-less Inv-loop μ-loop
 loop-less c = search needs
 
--- src/lib.rt:60:5
 loop-again : tie.Need-loop-again Inv-loop μ-loop
 loop-again c = search (needs, laws.fill-on)
 
--- src/lib.rt:65:5
 mul-cards : tie.Need-mul-cards Inv-loop μ-loop
 mul-cards c = search needs
 
--- src/lib.rt:65:5
 array-write-cards : tie.Need-array-write-cards Inv-loop μ-loop
 array-write-cards c = search needs
 
--- src/lib.rt:66:32
 add-t14 : tie.Need-add-t14 Inv-loop μ-loop
 add-t14 c = search needs
 
--- src/lib.rt:66:65
 add-t19 : tie.Need-add-t19 Inv-loop μ-loop
 add-t19 c = search needs
 
--- src/lib.rt:51:1
 returns : tie.Need-returns Inv-loop μ-loop
 returns c = search (needs, laws.fill-done)
 

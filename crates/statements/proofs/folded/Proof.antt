@@ -3,43 +3,33 @@ use Rattle.statements.proofs.folded.Tie as tie
 use borrow.Author.Needs.{needs}
 use Rattle.statements.proofs.Laws as laws
 
--- src/lib.rt:105:30
 enum-told : tie.Need-enum-told
 enum-told c = search needs
 
--- src/lib.rt:106:28
 enum-told-2 : tie.Need-enum-told-2
 enum-told-2 c = search needs
 
--- src/lib.rt:107:30
 enum-told-3 : tie.Need-enum-told-3
 enum-told-3 c = search needs
 
--- src/lib.rt:108:49
 enum-told-4 : tie.Need-enum-told-4
 enum-told-4 c = search needs
 
--- src/lib.rt:108:49
 field-requires : tie.Need-field-requires
 field-requires c κs = search needs
 
--- src/lib.rt:108:33
 with-card-requires : tie.Need-with-card-requires
 with-card-requires c κs = search (needs, laws.room-asked, laws.field-short)
 
--- src/lib.rt:100:1
 returns : tie.Need-returns
 returns c = search needs
 
--- src/lib.rt:100:1
 returns-2 : tie.Need-returns-2
 returns-2 c = search needs
 
--- src/lib.rt:100:1
 returns-3 : tie.Need-returns-3
 returns-3 c = search needs
 
--- src/lib.rt:100:1
 returns-4 : tie.Need-returns-4
 returns-4 c = search (needs, laws.continuation-folds)
 

@@ -11,119 +11,90 @@ Inv-loop text at n start number stop stmt₀ i₀ k₀ stmt i k = (length text +
 abbrev μ-loop : tie.MeasureT-loop
 μ-loop text at n start number stop stmt₀ i₀ k₀ stmt i k = length text - i
 
--- src/lib.rt:136:9
 opening-requires : tie.Need-opening-requires Inv-loop μ-loop
 opening-requires c κs = search needs
 
--- src/lib.rt:140:44
 nothing-requires : tie.Need-nothing-requires Inv-loop μ-loop
 nothing-requires c κs = search needs
 
--- src/lib.rt:140:9
 returns : tie.Need-returns Inv-loop μ-loop
 returns c = search (needs, laws.none-taken)
 
--- src/lib.rt:142:9
 card-end-requires : tie.Need-card-end-requires Inv-loop μ-loop
 card-end-requires c κs = search needs
 
--- src/lib.rt:143:30
 nothing-requires-2 : tie.Need-nothing-requires-2 Inv-loop μ-loop
 nothing-requires-2 c κs = search needs
 
--- src/lib.rt:143:55
 sub-field : tie.Need-sub-field Inv-loop μ-loop
 sub-field c = search needs
 
--- src/lib.rt:143:55
 part-field-start : tie.Need-part-field-start Inv-loop μ-loop
 part-field-start c = search needs
 
--- src/lib.rt:143:55
 part-field-end : tie.Need-part-field-end Inv-loop μ-loop
 part-field-end c = search needs
 
--- src/lib.rt:143:49
 field-requires : tie.Need-field-requires Inv-loop μ-loop
 field-requires c κs = search needs
 
--- src/lib.rt:143:9
 with-card-requires : tie.Need-with-card-requires Inv-loop μ-loop
 with-card-requires c κs = search (needs, laws.room-none, laws.field-short)
 
--- src/lib.rt:144:17
 add-i : tie.Need-add-i Inv-loop μ-loop
 add-i c = search needs
 
--- src/lib.rt:145:17
 add-k : tie.Need-add-k Inv-loop μ-loop
 add-k c = search needs
 
--- src/lib.rt:146:5
 loop-holds : tie.Need-loop-holds Inv-loop μ-loop
 loop-holds c = search (needs, laws.begun)
 
--- src/lib.rt:147:13
 card-end-requires-2 : tie.Need-card-end-requires-2 Inv-loop μ-loop
 card-end-requires-2 c κs = search needs
 
--- src/lib.rt:148:28
 sub-kind-of : tie.Need-sub-kind-of Inv-loop μ-loop
 sub-kind-of c = search needs
 
--- src/lib.rt:148:28
 part-kind-of-start : tie.Need-part-kind-of-start Inv-loop μ-loop
 part-kind-of-start c = search needs
 
--- src/lib.rt:148:28
 part-kind-of-end : tie.Need-part-kind-of-end Inv-loop μ-loop
 part-kind-of-end c = search needs
 
--- src/lib.rt:148:13
 kind-of-requires : tie.Need-kind-of-requires Inv-loop μ-loop
 kind-of-requires c κs = search needs
 
--- src/lib.rt:149:12
 ends-requires : tie.Need-ends-requires Inv-loop μ-loop
 ends-requires c κs = search needs
 
--- src/lib.rt:150:13
 returns-2 : tie.Need-returns-2 Inv-loop μ-loop
 returns-2 c = search (needs, laws.taken-before)
 
--- src/lib.rt:152:38
 sub-folded : tie.Need-sub-folded Inv-loop μ-loop
 sub-folded c = search needs
 
--- src/lib.rt:152:38
 part-folded-start : tie.Need-part-folded-start Inv-loop μ-loop
 part-folded-start c = search needs
 
--- src/lib.rt:152:38
 part-folded-end : tie.Need-part-folded-end Inv-loop μ-loop
 part-folded-end c = search needs
 
--- src/lib.rt:152:9
 folded-requires : tie.Need-folded-requires Inv-loop μ-loop
 folded-requires c κs = search (needs, laws.room)
 
--- src/lib.rt:153:13
 add-i-2 : tie.Need-add-i-2 Inv-loop μ-loop
 add-i-2 c = search needs
 
--- src/lib.rt:154:9
 add-k-2 : tie.Need-add-k-2 Inv-loop μ-loop
 add-k-2 c = search needs
 
--- src/lib.rt:146:5
 loop-less : tie.Need-loop-less Inv-loop μ-loop
 loop-less c = search needs
 
--- src/lib.rt:146:5
 loop-again : tie.Need-loop-again Inv-loop μ-loop
 loop-again c = search (needs, laws.gone)
 
--- src/lib.rt:132:1
 returns-3 : tie.Need-returns-3 Inv-loop μ-loop
 returns-3 c = search (needs, laws.taken-last)
 

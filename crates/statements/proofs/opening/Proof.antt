@@ -1,7 +1,5 @@
 use Rattle.statements.proofs.opening.Statement.{statement}
 use Rattle.statements.proofs.opening.Tie as tie
-use Rattle.statements.proofs.opening.Reads as reads
-use Rattle.statements.proofs.opening.Lts as lts
 use mathlib.Core.Path.{_≡_}
 use Prim.Native.Nat.{_+_, _-_, _≤_}
 use lib.ListN.{length, drop}
@@ -17,55 +15,42 @@ Inv-loop text at n i₀ k₀ i k = (at ≤ i) × (k ≤ i + 1) × (gathered n (c
 abbrev μ-loop : tie.MeasureT-loop
 μ-loop text at n i₀ k₀ i k = length text - i
 
--- src/lib.rt:119:5
 loop-holds : tie.Need-loop-holds Inv-loop μ-loop
 loop-holds c = search needs
 
--- src/lib.rt:120:13
 card-end-requires : tie.Need-card-end-requires Inv-loop μ-loop
 card-end-requires c κs = search needs
 
--- src/lib.rt:121:28
 sub-kind-of : tie.Need-sub-kind-of Inv-loop μ-loop
 sub-kind-of c = search needs
 
--- src/lib.rt:121:28
 part-kind-of-start : tie.Need-part-kind-of-start Inv-loop μ-loop
 part-kind-of-start c = search needs
 
--- src/lib.rt:121:28
 part-kind-of-end : tie.Need-part-kind-of-end Inv-loop μ-loop
 part-kind-of-end c = search needs
 
--- src/lib.rt:121:13
 kind-of-requires : tie.Need-kind-of-requires Inv-loop μ-loop
 kind-of-requires c κs = search needs
 
--- src/lib.rt:122:12
 opens-requires : tie.Need-opens-requires Inv-loop μ-loop
 opens-requires c κs = search needs
 
--- src/lib.rt:123:13
 returns : tie.Need-returns Inv-loop μ-loop
 returns c = search (needs, laws.met)
 
--- src/lib.rt:125:13
 add-i : tie.Need-add-i Inv-loop μ-loop
 add-i c = search needs
 
--- src/lib.rt:126:9
 add-k : tie.Need-add-k Inv-loop μ-loop
 add-k c = search needs
 
--- src/lib.rt:119:5
 loop-less : tie.Need-loop-less Inv-loop μ-loop
 loop-less c = search needs
 
--- src/lib.rt:119:5
 loop-again : tie.Need-loop-again Inv-loop μ-loop
 loop-again c = search (needs, laws.same-on, laws.formed-on)
 
--- src/lib.rt:113:1
 returns-2 : tie.Need-returns-2 Inv-loop μ-loop
 returns-2 c = search (needs, laws.met-none)
 

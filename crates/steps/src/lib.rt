@@ -1,0 +1,157 @@
+// The steps of a claim: all states side by side, equation by equation.
+ghost use mathlib.Core.Path.{_≡_};
+ghost use mathlib.Core.List.{List};
+ghost use Prim.Native.Nat.{ℕ, _+_, _/_, _%_, _^_, _<_, _≤_};
+ghost use lib.Dec.{eqb};
+ghost use lib.ListN.{length, take, getD, set};
+ghost use Rattle.lists.specs.Lists.{stands};
+ghost use Rattle.sets.specs.Sets.{bit};
+ghost use Rattle.logic.specs.Decks.{Equation, base};
+ghost use Rattle.evaluator.specs.Pending.{All, following, tops};
+ghost use Rattle.truths.specs.Worked.{Ready};
+ghost use Rattle.steps.specs.Steps.{behind, marked, markWord, takenWord, Marks, Given, Zeros, FirstLacking};
+
+// The number of the state behind step k, of n states.
+fn follower(k: usize, n: usize, p: usize) -> usize
+    requires { ⌜ (k < n) × (p < n) ⌝ }
+    ensures { λ r. ⌜ (r ≡ following n p k) × (r < n) ⌝ }
+{
+    let home = p;
+    if k + 1 < n {
+        return k + 1;
+    }
+    home
+}
+
+// Whether the pending value of state k is the one that v has behind step k.
+fn agrees<'a>(words: &'a [u64], states: &'a [u64], p: usize, v: usize, k: usize) -> bool
+    requires { ⌜ (length (now words) ≡ length (now states)) × (p < length (now states)) × (k < length (now words)) ⌝ }
+    ensures { λ r. ⌜ r ≡ eqb (tops (now (words .entry)) k) (bit (behind (now (states .entry)) p k) v) ⌝ }
+{
+    let next = follower(k, states.len(), p);
+    let taken = evaluator::value_at(states, next, v);
+    let w = evaluator::word_at(words, k);
+    w % 2 == taken
+}
+
+// The mark with the variable, where the test says so.
+fn with_mark(u: u64, v: usize, test: bool) -> u64
+    ensures { λ r. ⌜ r ≡ marked test v u ⌝ }
+{
+    if test {
+        let one = sets::variable(v);
+        return sets::union(u, one);
+    }
+    u
+}
+
+// v is marked at every step behind which it has the pending value.
+fn mark<'a>(marks: &mut [u64], words: &'a [u64], states: &'a [u64], p: usize, v: usize)
+    requires { ⌜ (length (now words) ≡ length (now states)) × (length (now marks) ≡ length (now states)) × (p < length (now states)) ⌝ }
+    ensures { λ _. ⌜ All (markWord (now (words .entry)) (now (states .entry)) p v) (now (marks .entry)) (now (marks .exit)) ⌝ }
+{
+    let mut k = 0;
+    while k < marks.len() {
+        let test = agrees(words, states, p, v, k);
+        let u = evaluator::word_at(marks, k);
+        evaluator::put_word(marks, k, with_mark(u, v, test));
+        k += 1;
+    }
+}
+
+// Every word without its topmost value.
+fn pop(words: &mut [u64])
+    ensures { λ _. ⌜ All (λ i w. w / 2) (now (words .entry)) (now (words .exit)) ⌝ }
+{
+    let mut i = 0;
+    while i < words.len() {
+        let w = evaluator::word_at(words, i);
+        evaluator::put_word(words, i, w / 2);
+        i += 1;
+    }
+}
+
+// Number i of a row.
+fn number_at(row: &[u16], i: usize) -> usize
+    requires { ⌜ i < length (now row) ⌝ }
+    ensures { λ r. ⌜ r ≡ getD (now (row .entry)) i 0 ⌝ }
+{
+    wide(row[i])
+}
+
+fn wide(n: u16) -> usize
+    ensures { λ r. ⌜ r ≡ n ⌝ }
+{
+    n as usize
+}
+
+// v is marked at every step where the expression that begins at `at` gives the value that v takes; the words stay.
+fn mark_equation<'a>(
+    nodes: &'a [u16],
+    at: usize,
+    states: &'a [u64],
+    p: usize,
+    v: usize,
+    words: &mut [u64],
+    marks: &mut [u64],
+)
+    requires { ⌜ Ready (now nodes) at (now states) p (now words) (base .levels) × (length (now marks) ≡ length (now states)) × (p < length (now states)) ⌝ }
+    ensures { λ _. ⌜ (now (words .exit) ≡ now (words .entry)) × Marks (now (nodes .entry)) at (now (states .entry)) p v (now (marks .entry)) (now (marks .exit)) ⌝ }
+{
+    truths::evaluate(nodes, at, states, p, words, decks::LEVELS);
+    mark(marks, words, states, p, v);
+    pop(words);
+}
+
+// Every step is marked with the variables to which one of the equations gives the value that they take.
+pub fn mark_all<'a>(
+    lefts: &'a [u16],
+    ends: &'a [u16],
+    nodes: &'a [u16],
+    equations: usize,
+    states: &'a [u64],
+    p: usize,
+    words: &mut [u64],
+    marks: &mut [u64],
+)
+    requires { ⌜ ((qs : List Equation) × Given qs (now lefts) (now ends) (now nodes) equations) × Zeros (now words) × (length (now words) ≡ length (now states)) × (length (now marks) ≡ length (now states)) × (p < length (now states)) ⌝ }
+    ensures { λ _. ⌜ (now (words .exit) ≡ now (words .entry)) × ((qs : List Equation) → Given qs (now (lefts .entry)) (now (ends .entry)) (now (nodes .entry)) equations → All (takenWord qs (now (states .entry)) p) (now (marks .entry)) (now (marks .exit))) ⌝ }
+{
+    let mut i = 0;
+    let mut at = 0;
+    while i < equations {
+        let v = number_at(lefts, i);
+        mark_equation(nodes, at, states, p, v, words, marks);
+        at = number_at(ends, i);
+        i += 1;
+    }
+}
+
+// Whether s is among the first n states of the row.
+pub fn is_among(row: &[u64], n: usize, s: u64) -> bool
+    requires { ⌜ n ≤ length (now row) ⌝ }
+    ensures { λ r. ⌜ r ≡ stands s (take n (now (row .entry))) ⌝ }
+{
+    let mut i = 0;
+    while i < n {
+        if s == decks::state_at(row, i) {
+            return true;
+        }
+        i += 1;
+    }
+    false
+}
+
+// The lowest step whose mark lacks a variable; the number of steps where there is none.
+pub fn first_lacking(vars: u64, marks: &[u64]) -> usize
+    ensures { λ r. ⌜ FirstLacking vars (now (marks .entry)) r ⌝ }
+{
+    let mut k = 0;
+    while k < marks.len() {
+        if !sets::subset(vars, evaluator::word_at(marks, k)) {
+            return k;
+        }
+        k += 1;
+    }
+    k
+}
