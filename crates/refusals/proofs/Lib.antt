@@ -8,4 +8,5 @@ pub mod PairsDeep
 pub mod Frames
 pub mod FramesRefused
 pub mod ClaimsRefused
+pub mod Operations
 pub mod RefusedExactlyWhen

@@ -5,3 +5,4 @@ pub mod CardsOrder
 pub mod FrameFaults
 pub mod FramesOrder
 pub mod ClaimFaults
+pub mod OperationsOrder
