@@ -5,4 +5,8 @@ pub mod Statements
 pub mod Lacking
 pub mod CardsRefused
 pub mod PairsDeep
+pub mod Frames
+pub mod FramesRefused
+pub mod ClaimsRefused
+pub mod Operations
 pub mod RefusedExactlyWhen

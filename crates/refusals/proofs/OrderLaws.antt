@@ -160,10 +160,10 @@ rising-first P b (suc k) v w l h p n =
     (λ same. inl (subst P (sym same) p, ap b (sym same)))
     (λ other. inr (n v (omega arith) (omega arith), rising-first P b k (suc v) w (omega arith) (omega arith) p (λ u m. n u (omega arith))))
 
-pub rising-none : (P : ℕ → Type 0) (b : ℕ → Answer) (k v : ℕ) → ((u : ℕ) → P u → ⊥) → NoneOf (rising P b k v)
+pub rising-none : (P : ℕ → Type 0) (b : ℕ → Answer) (k v : ℕ) → ((u : ℕ) → v ≤ u → u < v + k → P u → ⊥) → NoneOf (rising P b k v)
 unfolding rising
 rising-none P b zero v n = tt
-rising-none P b (suc k) v n = (n v, rising-none P b k (suc v) n)
+rising-none P b (suc k) v n = (n v (omega arith) (omega arith), rising-none P b k (suc v) (λ u l h. n u (omega arith) (omega arith)))
 
 pub rising-alike : (P Q : ℕ → Type 0) (b : ℕ → Answer) (k v : ℕ) → ((u : ℕ) → P u ↔ Q u) → Alike (rising P b k v) (rising Q b k v)
 unfolding rising
