@@ -20,7 +20,8 @@ use Rattle.decks.specs.declared.ClaimRead.{ClaimRead}
 use Rattle.decks.specs.Answers.{Outcome, Got, Refused, refuse, afterwards}
 use Rattle.decks.specs.Stored.{claimRead}
 use Rattle.frames.specs.Hex.{number}
-use Rattle.frames.specs.Read.{kindOf, wholeNumber, countLine, walk, ClaimSofar, ClaimDue, StatesDue, ClaimWhole, sizesLine, stateLine, claimLine, claimEnd, readClaim}
+use Rattle.frames.specs.Read.{kindOf, wholeNumber, countLine, ClaimSofar, ClaimDue, StatesDue, ClaimWhole, sizesLine, stateLine, claimLine, claimEnd, readClaim}
+use Rattle.decks.specs.Readings.{walk}
 use Rattle.lines.specs.declared.Number.{Number}
 use Rattle.lines.specs.declared.Number.the-variants.{Good, Bad}
 use Rattle.lines.specs.Steps.{lineLength, numberRead, countIs}

@@ -21,7 +21,8 @@ use Rattle.decks.specs.declared.Answer.the-variants.{Fine, TooLong, BadFrame, O
 use Rattle.decks.specs.Answers.{Outcome, Got, Refused, refuse, afterwards}
 use Rattle.decks.specs.Stored.{leftsOf, endsOf, codes, HoldsEquations}
 use Rattle.frames.specs.Hex.{number}
-use Rattle.frames.specs.Read.{Due, DueSet, DueInit, DueAny, DueEquation, DueCount, DueNone, Sofar, begun, Reading, Whole, Wrong, Deep, readExpr, wholeExpr, wholeNumber, setLine, initLine, propertyLine, withEquation, equationLine, kindOf, lastLeft, leftSet}
+use Rattle.frames.specs.Read.{Due, DueSet, DueInit, DueAny, DueEquation, DueCount, DueNone, Sofar, begun, readExpr, wholeExpr, wholeNumber, setLine, initLine, propertyLine, withEquation, equationLine, kindOf, lastLeft}
+use Rattle.decks.specs.Readings.{Reading, Whole, Wrong, Deep, leftSet}
 use Rattle.lines.specs.declared.Number.{Number}
 use Rattle.lines.specs.declared.Number.the-variants.{Good, Bad}
 use Rattle.lines.specs.declared.Step.{Step}

@@ -19,7 +19,8 @@ use Rattle.decks.specs.declared.Answer.the-variants.{BadFrame}
 use Rattle.decks.specs.Answers.{Outcome, Got, refuse}
 use Rattle.frames.specs.Hex.{pairs}
 use Rattle.frames.specs.Written.{setBytes, claimKind, stateKind, claimCountKind, frame, stateFrames, claimFrames}
-use Rattle.frames.specs.Read.{ClaimSofar, ClaimDue, StatesDue, ClaimWhole, wholeNumber, kindOf, walk, countLine, sizesLine, stateLine, claimLine, claimEnd, readClaim}
+use Rattle.frames.specs.Read.{ClaimSofar, ClaimDue, StatesDue, ClaimWhole, wholeNumber, kindOf, countLine, sizesLine, stateLine, claimLine, claimEnd, readClaim}
+use Rattle.decks.specs.Readings.{walk}
 use Rattle.frames.proofs.HexLaws.{pairs-from-zero, pairs-four}
 use Rattle.frames.proofs.LineLaws.{Given, got-given, refuse-given, refuse-not-given, afterwards-given, walk-got, walk-keeps, line, kind-line, line-kind, frame-joined, stateLines, state-frames-joined, line-free, state-lines-free, whole-number-pairs, whole-number-got, count-line-pairs, count-line-given}
 

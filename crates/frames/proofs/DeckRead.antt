@@ -17,7 +17,8 @@ use Rattle.logic.specs.Decks.{Equation, Deck, Accepted, Allowed, Rising, base, 
 use Rattle.decks.specs.Answers.{Outcome, Got, Refused}
 use Rattle.frames.specs.Hex.{pairs, byteOf}
 use Rattle.frames.specs.Written.{setBytes, setKind, initKind, equationKind, propertyKind, countKind, nodePairs, deckFrames}
-use Rattle.frames.specs.Read.{Due, DueSet, DueInit, DueAny, DueEquation, DueCount, DueNone, Sofar, begun, wholeNumber, wholeExpr, kindOf, walk, setLine, initLine, lastLeft, withEquation, equationLine, propertyLine, countLine, permits, frameLine, deckLine, complete, deckEnd, readDeck}
+use Rattle.frames.specs.Read.{Due, DueSet, DueInit, DueAny, DueEquation, DueCount, DueNone, Sofar, begun, wholeNumber, wholeExpr, kindOf, setLine, initLine, lastLeft, withEquation, equationLine, propertyLine, countLine, permits, frameLine, deckLine, deckEnd, readDeck}
+use Rattle.decks.specs.Readings.{walk, complete}
 use Rattle.frames.proofs.HexLaws.{pair-byte}
 use Rattle.frames.proofs.LineLaws.{Given, got-given, refuse-given, refuse-not-given, afterwards-given, walk-keeps, line, line-kind, stateLines, whole-number-got, whole-expr-got, count-line-given}
 use Rattle.frames.proofs.LeftLaws.{all-complete}

@@ -14,7 +14,7 @@ use Rattle.logic.specs.Decks.{Equation, Deck, base}
 use Rattle.decks.specs.declared.Answer.{Answer}
 use Rattle.decks.specs.declared.Answer.the-variants.{NoEquation}
 use Rattle.decks.specs.Answers.{Outcome, Got, Refused}
-use Rattle.frames.specs.Read.{leftSet, complete}
+use Rattle.decks.specs.Readings.{leftSet, complete}
 use Rattle.frames.proofs.LineLaws.{refused-got}
 
 -- v has an equation.

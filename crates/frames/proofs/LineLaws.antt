@@ -17,7 +17,8 @@ use Rattle.decks.specs.declared.Answer.{Answer}
 use Rattle.decks.specs.Answers.{Outcome, Got, Refused, refuse, afterwards}
 use Rattle.frames.specs.Hex.{pair, pairs, number}
 use Rattle.frames.specs.Written.{setBytes, frame, stateFrames, nodePairs}
-use Rattle.frames.specs.Read.{Reading, Whole, Wrong, Deep, readExpr, wholeExpr, wholeNumber, kindOf, walk, countLine}
+use Rattle.frames.specs.Read.{readExpr, wholeExpr, wholeNumber, kindOf, countLine}
+use Rattle.decks.specs.Readings.{Reading, Whole, Wrong, Deep, walk}
 use Rattle.frames.proofs.HexLaws.{byte-pair, pair-byte, hex-from-zero, pairs-from-zero, number-pairs, pairs-number}
 use Rattle.frames.proofs.ExprLaws.{expr-written-read, expr-read-written}
 

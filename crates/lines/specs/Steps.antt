@@ -8,7 +8,8 @@ use lib.ListN.{length, drop}
 use Rattle.sets.specs.Sets.{only}
 use Rattle.logic.specs.Expressions.{Expr, nodes, written, temporal}
 use Rattle.frames.specs.Hex.{number}
-use Rattle.frames.specs.Read.{Sign, Leaf, Before, Between, NoSign, Reading, Whole, Wrong, Deep, kindOf}
+use Rattle.frames.specs.Read.{Sign, Leaf, Before, Between, NoSign, kindOf}
+use Rattle.decks.specs.Readings.{Reading, Whole, Wrong, Deep}
 use Rattle.lines.specs.declared.Number.{Number}
 use Rattle.lines.specs.declared.Number.the-variants.{Good, Bad}
 use Rattle.lines.specs.declared.Step.{Step}
