@@ -17,7 +17,7 @@ use Rattle.decks.specs.Answers.{Outcome, Got, Refused}
 use Rattle.decks.specs.Readings.{Reading, Whole, Wrong, Deep, onward}
 use Rattle.cards.specs.Grammar.{Counted, Number, NoNumber, readNumber, Sign, Constant, Variable, Before, Bracket, NoSign, signOf, jointOf, past, pastJoint, variable, levelled, begins, readExpr}
 use Rattle.cards.specs.Read.{wholeExpr}
-use Rattle.cards.proofs.Outcomes.{refused-got}
+use Rattle.decks.proofs.Outcomes.{refused-got}
 use Rattle.cards.proofs.GrammarLaws.{Begins, sign-begins, Joins, joint-joins, read-sign, one-sign, bracket-sign, past-joint, two-no-digit, spelling-read, read-spelling}
 use Rattle.cards.proofs.WordLaws.{whole-expr-spelt, whole-expr-got}
 

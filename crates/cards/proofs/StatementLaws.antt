@@ -1,7 +1,7 @@
 -- Laws of the walk over statements: it comes to a result exactly where the statements are the spelling of what was typed, within the limits.
 use mathlib.Core.Path.{_≡_, refl, sym, ap, ap₂, _∙_, subst}
 use mathlib.Core.Logic.{_⊎_, inl, inr}
-use mathlib.Core.Bool.{false, not}
+use mathlib.Core.Bool.{false}
 use mathlib.Core.List.{List, [], _∷_, _++_, map, map-append, append-assoc, append-nil, nil≢cons, head-eq-of-cons-eq, tail-eq-of-cons-eq}
 use mathlib.Core.Option.{Option, none, some}
 use Prim.Native.Nat.{ℕ, suc, _+_, _^_, _<_, _≤_}
@@ -25,7 +25,7 @@ use Rattle.cards.specs.Statement.{Statement, inked}
 use Rattle.cards.specs.Grammar.{Counted, Number, NoNumber, readNumber}
 use Rattle.cards.specs.Typed.{Typed, binaryFrom, initSpelt, equationSpelt, spelt, firstVars, Fits}
 use Rattle.cards.specs.Read.{behind, Due, DueVars, DueInit, DueAny, DueEquation, DueEnd, DueNone, Sofar, begun, wholeExpr, wholeNumber, varsStatement, readBinary, initStatement, withEquation, equationStatement, propStatement, endStatement, equationOrProp, dueStatement, statementRead}
-use Rattle.cards.proofs.Outcomes.{Given, refuse-given, refuse-not-given, afterwards-given, walk-got, walk-keeps}
+use Rattle.decks.proofs.Outcomes.{Given, refuse-given, refuse-not-given, got-given, afterwards-given, walk-got, walk-keeps}
 use Rattle.cards.proofs.GrammarLaws.{decimal-read, read-decimal}
 use Rattle.cards.proofs.WordLaws.{behind-word, word-behind, on-word, on-other, word-given, whole-number-spelt, whole-number-got, whole-expr-spelt, whole-expr-got, binary-read, read-binary}
 use Rattle.cards.proofs.TypedLaws.{plain-temporal, temporal-plain, total-append, member-first-vars, first-vars-most, below-subset, subset-below}
@@ -283,7 +283,10 @@ read-kept past n s so k = rw (map-append textOf past (s ∷ [])) (statement-kept
 
 -- Statements that are read to the end are the spelling of what was typed, and that keeps the limits; 15 is judged behind them.
 pub walk-spelt : (n : ℕ) (ss : List Statement) (so : Sofar) → walk statementRead n ss begun ≡ Got so → so .due ≡ DueNone → (map textOf ss ≡ spelt (so .typed)) × Stated (so .typed)
-walk-spelt n ss so e d = subst (λ (u : Due). Kept (map textOf ss) (sofar u (so .typed))) d (walk-keeps statementRead (λ past s. Kept (map textOf past) s) read-kept ss [] n begun so (refl, refl) e)
+walk-spelt n ss so e d =
+    let first : n + 0 ≡ n = omega arith in
+    let kept = walk-keeps statementRead n (λ past s. Kept (map textOf past) s) (λ past. read-kept past (n + length past)) ss [] begun (refl, refl) in
+    subst (λ (u : Due). Kept (map textOf ss) (sofar u (so .typed))) d (got-given (Kept (map textOf ss)) (walk statementRead n ss begun) so (rw first at kept) e)
 
 -- ---- spelt, then read
 

@@ -21,7 +21,7 @@ use Rattle.decks.specs.Readings.{Reading, Whole, Wrong, Deep}
 use Rattle.cards.specs.Grammar.{Counted, Number, NoNumber, digitValue, readNumber, readExpr}
 use Rattle.cards.specs.Typed.{binaryFrom}
 use Rattle.cards.specs.Read.{behind, wholeExpr, wholeNumber, readBinary, Sofar, onWord}
-use Rattle.cards.proofs.Outcomes.{Given, refused-got, got-eq}
+use Rattle.decks.proofs.Outcomes.{Given, refused-got, got-eq}
 use Rattle.cards.proofs.GrammarLaws.{decimal-read, read-decimal, spelling-read, read-spelling}
 
 -- general:

@@ -1,38 +1,39 @@
 -- Laws of the lines of a deck.
 use mathlib.Core.Path.{_≡_, refl, sym, ap, _∙_, subst}
 use mathlib.Core.Bool.{Bool, true, false, not}
-use mathlib.Core.List.{List, [], _∷_, _++_, map, append-assoc, append-nil}
+use mathlib.Core.List.{List, [], _∷_, _++_, append-assoc, append-nil}
 use Prim.Native.Nat.{ℕ, zero, suc, _+_, _-_, _*_, _%_, _^_, _<_, _≤_}
 use native.Mathlib.Omega.{arith}
 use native.Mathlib.Numerals.{add-one}
-use lib.Dec.{ltb, eqb}
-use lib.ListN.{length, take, drop, getD, set, replicate, length-append, length-drop, length-set, length-replicate, drop-of-length-le}
+use lib.Dec.{ltb}
+use lib.ListN.{length, take, drop, getD, set, replicate, length-append, length-drop, length-set, drop-of-length-le}
 use lib.Seq.{drop-cons, drop-nil, getD-take, length-take-le, drop-drop, take-append-seam, drop-append-add}
 use borrow.Author.Tests.{lt-ltb, le-ltb, eq-eqb, ne-eqb}
 use Rattle.lists.specs.Lists.{stands, padded, splice}
 use Rattle.lists.proofs.Laws.{padded-snoc, padded-nil, take-padded, length-splice}
 use Rattle.sets.specs.Sets.{has, inside, only, union}
-use Rattle.sets.proofs.Laws.{ext, bit-union, bit-zero, only-within}
-use Rattle.logic.specs.Expressions.{Expr, Const, nodes, written, temporal, code}
-use Rattle.logic.specs.Decks.{Deck, Equation, base, totalNodes}
+use Rattle.sets.proofs.Laws.{ext, bit-union, only-within}
+use Rattle.logic.specs.Expressions.{Expr, nodes, written, temporal, code}
+use Rattle.logic.specs.Decks.{Deck, Equation, totalNodes}
 use Rattle.logic.proofs.Codes.{length-code}
 use Rattle.decks.specs.declared.Answer.{Answer}
-use Rattle.decks.specs.declared.Answer.the-variants.{Fine, TooLong, BadFrame, Outside, Temporal, TooDeep, ManyInitials, ManyEquations, ManyNodes}
+use Rattle.decks.specs.declared.Answer.the-variants.{Fine, BadFrame, Outside, Temporal, TooDeep, ManyInitials, ManyEquations, ManyNodes}
 use Rattle.decks.specs.Answers.{Outcome, Got, Refused, refuse, afterwards}
+use Rattle.decks.proofs.Outcomes.{refuse-got, afterwards-got}
 use Rattle.decks.specs.Stored.{leftsOf, endsOf, codes, HoldsEquations}
 use Rattle.frames.specs.Hex.{number}
-use Rattle.frames.specs.Read.{Due, DueSet, DueInit, DueAny, DueEquation, DueCount, DueNone, Sofar, begun, readExpr, wholeExpr, wholeNumber, setLine, initLine, propertyLine, withEquation, equationLine, kindOf, lastLeft}
+use Rattle.frames.specs.Read.{DueInit, DueAny, DueEquation, DueCount, Sofar, begun, readExpr, wholeExpr, setLine, initLine, propertyLine, withEquation, equationLine, kindOf, lastLeft}
 use Rattle.decks.specs.Readings.{Reading, Whole, Wrong, Deep, leftSet}
 use Rattle.lines.specs.declared.Number.{Number}
 use Rattle.lines.specs.declared.Number.the-variants.{Good, Bad}
 use Rattle.lines.specs.declared.Step.{Step}
 use Rattle.lines.specs.Steps.{numberRead, stepOf, nodesOf}
 use Rattle.lines.proofs.Laws.{whole-number-none, whole-number-some, pair-inside}
-use Rattle.lines.proofs.Steps.{Spans, whole-spans, whole-when, whole-next, length-nodesOf}
+use Rattle.lines.proofs.Steps.{whole-spans, whole-when, whole-next, length-nodesOf}
 use Rattle.decklines.specs.declared.Held.{Held}
 use Rattle.decklines.specs.declared.LineRead.{LineRead}
 use Rattle.decklines.specs.declared.ExprRead.{ExprRead}
-use Rattle.decklines.specs.Held.{heldOf, lineOf, exprOf, InitsAfter, InitCame, propertyOf, PropertyAfter, PropertyCame, EquationsAfter, EquationCame, Room}
+use Rattle.decklines.specs.Held.{heldOf, lineOf, exprOf, InitCame, PropertyCame, EquationCame, Room}
 
 abbrev pub held : ℕ → ℕ → ℕ → ℕ → ℕ → ℕ → ℕ → ℕ → Held
 held d v i e u l c z = record { due = d; vars = v; initials = i; equations = e; used = u; last = l; covered = c; size = z }
@@ -469,14 +470,6 @@ pub has-room : (line : List ℕ) (h : Held) (e : ExprRead) (v c : ℕ) → v < 6
 has-room line h e v c p q m w = record { few = omega arith; most = m; grows = omega arith; within = omega arith; left-fits = p }
 
 -- ---- 03 stored
-
-refuse-got : {A : Type 0} (b : Bool) (a : Answer) (o : Outcome A) (t : A) → refuse b a o ≡ Got t → o ≡ Got t
-refuse-got true a o t e = let z : Refused a ≡ Got t = e in cc
-refuse-got false a o t e = e
-
-afterwards-got : {A B : Type 0} (o : Outcome A) (f : A → Outcome B) (t : B) → afterwards o f ≡ Got t → (x : A) × (o ≡ Got x) × (f x ≡ Got t)
-afterwards-got (Got x) f t e = (x, refl, e)
-afterwards-got (Refused a) f t e = let z : Refused a ≡ Got t = e in let w : _≡_ {A = ℕ} 0 1 = cc in absurd (omega arith)
 
 with-got : (n : ℕ) (d : Deck) (q : Equation) (t : Sofar) → withEquation n d q ≡ Got t → t .deck .equations ≡ d .equations ++ (q ∷ [])
 unfolding withEquation

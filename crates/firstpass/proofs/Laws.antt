@@ -7,7 +7,7 @@ use Prim.Native.Nat.{ℕ, zero, suc, _+_, _-_, _<_, _≤_, min}
 use native.Mathlib.Omega.{arith}
 use native.Mathlib.Numerals.{add-one, unary-clauses}
 use native.Mathlib.Decide.{ℕ-discrete, decLe}
-use lib.Dec.{ltb, leb, eqb}
+use lib.Dec.{ltb, eqb}
 use lib.ListN.{length, take, drop, getD, replicate, length-drop, length-take, drop-of-length-le, List·getD-eq-default}
 use lib.Seq.{take-all, drop-cons, take-at, drop-at, drop-drop}
 use borrow.Author.Tests.{lt-leb, le-leb, lt-ltb, le-ltb, eq-eqb, ne-eqb}
@@ -17,6 +17,7 @@ use Rattle.decks.specs.declared.Answer.{Answer}
 use Rattle.decks.specs.declared.Answer.the-variants.{Fine, BadByte, TooWide, BadStart, BadNumber, NoneOpen, TooManyCards}
 use Rattle.decks.specs.Answers.{Outcome, Got, Refused, refuse}
 use Rattle.decks.specs.Readings.{walk}
+use Rattle.decks.proofs.Outcomes.{walk-got, walk-refused}
 use Rattle.cards.specs.Card.{cardsOf, blank, cardColumns, fieldStart, fieldEnd, fieldColumns, continuations, column, columns, every, isBlank, isDigit, printable, isComment, numbered, Kind, Comment, Empty, Opening, Continuing, kindOf, closes, Open, Shut, Continued, opened, cardInForm, inForm}
 use Rattle.firstpass.specs.declared.CardKind.{CardKind}
 use Rattle.firstpass.specs.declared.CardKind.the-variants.{Comment as CommentCard, Empty as EmptyCard, Opening as OpeningCard, Continuing as ContinuingCard}
@@ -408,17 +409,6 @@ module _ (n : ℕ) (card : List ℕ) (o : Open) (p : Bool) where
             cardInForm,
           ))
 
--- ---- general: one by one
-
-module _ {A S : Type 0} (f : ℕ → A → S → Outcome S) (n : ℕ) (x : A) (xs : List A) (s : S) where
-  pub walk-refused : (a : Answer) → f n x s ≡ Refused a → walk f n (x ∷ xs) s ≡ Refused a
-  unfolding walk
-  walk-refused a e = simp (e, walk)
-
-  pub walk-on : (t : S) → f n x s ≡ Got t → walk f n (x ∷ xs) s ≡ walk f (suc n) xs t
-  unfolding walk
-  walk-on t e = simp (e, walk)
-
 -- ---- the first pass
 
 module _ (text : List ℕ) (at n hand end : ℕ) where
@@ -439,7 +429,7 @@ module _ (text : List ℕ) (at n hand end : ℕ) where
     pub pass-on : (k : ℕ) → at < length text → end ≡ at + lineLength (drop at text) → Passing → Judged → r ≡ Next k → inForm (cardsOf text) ≡ walk cardInForm (n + 1) (cardsOf (drop (end + 1) text)) (openOf k)
     pass-on k h e i f q =
         at-card h e i
-        ∙ walk-on cardInForm n (take (end - at) (drop at text)) (cardsOf (drop (end + 1) text)) (openOf hand) (openOf k) (sym f ∙ ap outcomeOf q)
+        ∙ walk-got cardInForm n (take (end - at) (drop at text)) (cardsOf (drop (end + 1) text)) (openOf hand) (openOf k) (sym f ∙ ap outcomeOf q)
         ∙ ap (λ (m : ℕ). walk cardInForm m (cardsOf (drop (end + 1) text)) (openOf k)) (sym (add-one n))
 
 module _ (text : List ℕ) (at n hand : ℕ) where
@@ -491,7 +481,7 @@ told-walk n [] o = tt
 told-walk n (c ∷ cs) o = go (cardInForm n c o) refl (told-card n c o) (told-walk (suc n) cs)
   where
     go : (r : Outcome Open) → cardInForm n c o ≡ r → Told r → ((p : Open) → Told (walk cardInForm (suc n) cs p)) → Told (walk cardInForm n (c ∷ cs) o)
-    go (Got p) e t f = rw (walk-on cardInForm n c cs o p e) (f p)
+    go (Got p) e t f = rw (walk-got cardInForm n c cs o p e) (f p)
     go (Refused a) e t f = rw (walk-refused cardInForm n c cs o a e) t
 
 module _ (cards : List (List ℕ)) where

@@ -21,7 +21,8 @@ use Rattle.frames.specs.Written.{setBytes, setKind, initKind, equationKi
 use Rattle.frames.specs.Read.{Due, DueInit, DueAny, DueEquation, DueCount, DueNone, Sofar, begun, setLine, initLine, lastLeft, withEquation, equationLine, propertyLine, permits, frameLine, deckLine}
 use Rattle.decks.specs.Readings.{walk}
 use Rattle.frames.proofs.HexLaws.{byte-pair}
-use Rattle.frames.proofs.LineLaws.{walk-got, line, kind-line, stateLines, whole-number-pairs, whole-expr-pairs, count-line-pairs}
+use Rattle.frames.proofs.LineLaws.{line, kind-line, stateLines, whole-number-pairs, whole-expr-pairs, count-line-pairs}
+use Rattle.decks.proofs.Outcomes.{walk-got}
 use Rattle.frames.proofs.DeckLaws.{distinct-before, plain-temporal, total-append, rising-before, equationContent, equationLines, propertyContent, propertyOf, countContent, countOf, deckLines}
 
 -- What the lines so far came to.

@@ -11,11 +11,11 @@ use Rattle.lists.specs.Lists.{Some}
 use Rattle.sets.specs.Sets.{_∋_, only, without, Lowest}
 use Rattle.sets.proofs.Laws.{bit-zero, bit-union, bit-or-zero, bit-only, only-bit, union-left, union-right, member-dec, subset-without, without-subset, without-left, without-out, without-in, without-lt, trailing-lowest, lowest-unique}
 use Rattle.logic.specs.Decks.{Equation, Deck, base}
 use Rattle.decks.specs.declared.Answer.{Answer}
 use Rattle.decks.specs.declared.Answer.the-variants.{NoEquation}
 use Rattle.decks.specs.Answers.{Outcome, Got, Refused}
 use Rattle.decks.specs.Readings.{leftSet, complete}
-use Rattle.frames.proofs.LineLaws.{refused-got}
+use Rattle.decks.proofs.Outcomes.{refused-got}
 
 -- v has an equation.
 abbrev pub HasEquation : List Equation → ℕ → Type 0
