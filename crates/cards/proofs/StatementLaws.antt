@@ -14,9 +14,9 @@ use Rattle.lists.specs.Texts.{bytes}
 use Rattle.lists.proofs.Laws.{each-at, each-append, among-right}
 use Rattle.sets.specs.Sets.{_⊆_, has, inside}
 use Rattle.sets.proofs.Laws.{has-true, true-has, inside-true, true-inside}
-use Rattle.logic.specs.Expressions.{Expr, Const, nodes, levels, written, temporal, decimal, spelling}
+use Rattle.logic.specs.Expressions.{Expr, Const, nodes, levels, written, temporal, decimal, spelling, Below}
 use Rattle.logic.specs.Decks.{Equation, Allowed, base, totalNodes}
-use Rattle.logic.proofs.Codes.{Below, below-more, written-below}
+use Rattle.logic.proofs.Codes.{below-more, written-below}
 use Rattle.logic.proofs.Spelling.{NoDigit}
 use Rattle.decks.specs.declared.Answer.the-variants.{NotDue, ManyInitials}
 use Rattle.decks.specs.Answers.{Outcome, Got, Refused, refuse, afterwards}
@@ -28,7 +28,8 @@ use Rattle.cards.specs.Read.{behind, Due, DueVars, DueInit, DueAny, DueE
 use Rattle.decks.proofs.Outcomes.{Given, refuse-given, refuse-not-given, got-given, afterwards-given, walk-got, walk-keeps}
 use Rattle.cards.proofs.GrammarLaws.{decimal-read, read-decimal}
 use Rattle.cards.proofs.WordLaws.{behind-word, word-behind, on-word, on-other, word-given, whole-number-spelt, whole-number-got, whole-expr-spelt, whole-expr-got, binary-read, read-binary}
-use Rattle.cards.proofs.TypedLaws.{plain-temporal, temporal-plain, total-append, member-first-vars, first-vars-most, below-subset, subset-below}
+use Rattle.cards.proofs.TypedLaws.{member-first-vars, first-vars-most, below-subset, subset-below}
+use Rattle.logic.proofs.Rights.{plain-temporal, temporal-plain, total-append}
 
 -- ---- the texts of the statements
 

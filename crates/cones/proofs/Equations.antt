@@ -9,9 +9,9 @@ use lib.ListN.{length, take, drop, getD, replicate, length-append, length-map, L
 use lib.Seq.{drop-cons}
 use Rattle.lists.specs.Lists.{Each, padded}
 use Rattle.lists.proofs.Laws.{each-getD, getD-padded}
-use Rattle.logic.specs.Expressions.{Const, nodes, code}
+use Rattle.logic.specs.Expressions.{Const, nodes, code, Narrow}
 use Rattle.logic.specs.Decks.{Equation, base, totalNodes}
-use Rattle.logic.proofs.Codes.{Narrow, length-code}
+use Rattle.logic.proofs.Codes.{length-code}
 use Rattle.terms.specs.Nodes.{Stands}
 use Rattle.terms.proofs.Trees.{stands-at}
 use Rattle.decks.specs.Stored.{leftsOf, endsOf, codes, HoldsEquations}

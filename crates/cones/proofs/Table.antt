@@ -2,7 +2,7 @@
 use mathlib.Core.Path.{_≡_, refl, sym, ap, ap₂, _∙_}
 use mathlib.Core.Logic.{inl, inr, by-cases}
 use mathlib.Core.List.{List, [], _∷_}
-use Prim.Native.Nat.{ℕ, zero, suc, _+_, _-_, _<_, _≤_}
+use Prim.Native.Nat.{ℕ, zero, suc, _+_, _<_, _≤_}
 use native.Mathlib.Omega.{arith}
 use native.Mathlib.Nat.{zero-add}
 use native.Mathlib.Decide.{ℕ-discrete, decLt}
@@ -13,10 +13,10 @@ use lib.Bits.{or-zero-l, or-zero-r}
 use Rattle.lists.specs.Lists.{_among_}
 use Rattle.sets.specs.Sets.{_∋_, _⊆_, union}
 use Rattle.sets.proofs.Laws.{bit-zero, subset-refl, subset-trans, union-left, union-right, union-least}
-use Rattle.logic.specs.Expressions.{Expr, nodes, written}
+use Rattle.logic.specs.Expressions.{Expr, written, Below}
 use Rattle.logic.specs.Decks.{Equation, base, totalNodes}
 use Rattle.logic.specs.Cones.{Closed}
-use Rattle.logic.proofs.Codes.{Below, below-more, written-below}
+use Rattle.logic.proofs.Codes.{below-more, written-below}
 use Rattle.terms.specs.Nodes.{part, variablesOf}
 use Rattle.terms.proofs.Laws.{union-assoc}
 use Rattle.terms.proofs.Trees.{stands-written}

@@ -23,7 +23,8 @@ use Rattle.frames.proofs.HexLaws.{pair-byte}
 use Rattle.frames.proofs.LineLaws.{line, line-kind, stateLines, whole-number-got, whole-expr-got, count-line-given}
 use Rattle.decks.proofs.Outcomes.{Given, got-given, refuse-given, refuse-not-given, afterwards-given, walk-keeps}
 use Rattle.decks.proofs.Complete.{all-complete}
-use Rattle.frames.proofs.DeckLaws.{temporal-plain, total-append, rising-snoc, equationContent, equationLines, headLines, propertyOf, countContent, countOf, deckLines, deck-frames-joined, length-head-lines}
+use Rattle.frames.proofs.DeckLaws.{rising-snoc, equationContent, equationLines, headLines, propertyOf, countContent, countOf, deckLines, deck-frames-joined, length-head-lines}
+use Rattle.logic.proofs.Rights.{temporal-plain, total-append}
 use Rattle.frames.proofs.DeckWritten.{sofar}
 
 -- What holds of the deck in hand from 01 on.

@@ -8,7 +8,7 @@ use native.Mathlib.Omega.{arith}
 use borrow.Author.Tests.{lt-ltb, le-ltb}
 use lib.ListN.{length, length-append}
 use Rattle.lists.specs.Lists.{_among_, Distinct}
-use Rattle.lists.proofs.Laws.{each-at, among-right, stands-false}
+use Rattle.lists.proofs.Laws.{each-at, among-right, stands-false, distinct-before}
 use Rattle.sets.specs.Sets.{_⊆_}
 use Rattle.sets.proofs.Laws.{has-true, inside-true, member-lt, subset-lt}
 use Rattle.logic.specs.Expressions.{Const, nodes, written}
@@ -23,7 +23,8 @@ use Rattle.decks.specs.Readings.{walk}
 use Rattle.frames.proofs.HexLaws.{byte-pair}
 use Rattle.frames.proofs.LineLaws.{line, kind-line, stateLines, whole-number-pairs, whole-expr-pairs, count-line-pairs}
 use Rattle.decks.proofs.Outcomes.{walk-got}
-use Rattle.frames.proofs.DeckLaws.{distinct-before, plain-temporal, total-append, rising-before, equationContent, equationLines, propertyContent, propertyOf, countContent, countOf, deckLines}
+use Rattle.frames.proofs.DeckLaws.{rising-before, equationContent, equationLines, propertyContent, propertyOf, countContent, countOf, deckLines}
+use Rattle.logic.proofs.Rights.{plain-temporal, total-append}
 
 -- What the lines so far came to.
 abbrev pub sofar : Due → Deck → Sofar

@@ -9,9 +9,8 @@ use lib.Dec.{eqb}
 use lib.ListN.{drop}
 use Rattle.lists.specs.Lists.{Each, _among_, joined}
 use Rattle.lists.proofs.Laws.{each-at}
-use Rattle.logic.specs.Expressions.{Expr, levels, code}
+use Rattle.logic.specs.Expressions.{Expr, levels, code, Below}
 use Rattle.logic.specs.Decks.{base}
-use Rattle.logic.proofs.Codes.{Below}
 use Rattle.decks.specs.Answers.{Got}
 use Rattle.decks.proofs.Outcomes.{Given, refused-got, refuse-not-given, afterwards-given}
 use Rattle.frames.specs.Hex.{pair, pairs, number}

@@ -52,6 +52,12 @@ module _ {A : Type 0} where
   each-getD P (x ∷ xs) zero d ps h = ps .0
   each-getD P (x ∷ xs) (suc i) d ps h = each-getD P xs i d (ps .1) (omega arith)
 
+  -- P of what stands behind the end too.
+  pub each-default : (P : A → Type 0) (xs : List A) (i : ℕ) (d : A) → Each P xs → P d → P (getD xs i d)
+  each-default P [] i d ps z = z
+  each-default P (x ∷ xs) zero d ps z = ps .0
+  each-default P (x ∷ xs) (suc i) d ps z = each-default P xs i d (ps .1) z
+
   pub getD-each : (P : A → Type 0) (xs : List A) (d : A) → ((i : ℕ) → i < length xs → P (getD xs i d)) → Each P xs
   getD-each P [] d f = tt
   getD-each P (x ∷ xs) d f = (f 0 (omega arith), getD-each P xs d (λ i h. f (suc i) (omega arith)))
@@ -296,6 +302,10 @@ snoc-distinct x (y ∷ ys) d =
       (λ m. d .0 (among-left ys (x ∷ []) y m), rest .0),
       ⊎-elim (λ e. d .0 (among-right ys (x ∷ []) y (inl (sym e)))) (rest .1),
     )
+
+pub distinct-before : (xs : List ℕ) (x : ℕ) (ys : List ℕ) → Distinct (xs ++ x ∷ ys) → x among xs → ⊥
+distinct-before (y ∷ xs) x ys d (inl e) = d .0 (among-right xs (x ∷ ys) y (inl (sym e)))
+distinct-before (y ∷ xs) x ys d (inr m) = distinct-before xs x ys (d .1) m
 
 -- ---- the members that pass a test
 

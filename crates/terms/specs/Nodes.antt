@@ -1,13 +1,12 @@
 -- Expressions in memory: nodes in prefix order, in a list that may go on behind them.
 use mathlib.Core.Path.{_≡_}
-use mathlib.Core.Bool.{Bool, true, false, _&&_, _||_}
+use mathlib.Core.Bool.{Bool, true, false, _||_}
 use mathlib.Core.List.{List, [], _∷_, _++_}
 use Prim.Native.Nat.{ℕ, zero, suc, _+_, _-_}
 use lib.Dec.{ltb, leb}
 use lib.ListN.{take, drop}
 use Rattle.sets.specs.Sets.{only, union, width}
-use Rattle.logic.specs.Expressions.{Expr, Const, Var, One, Two, Not, Next, Future, Always, And, Or, Until, Weak, constNode, node1, node2, code}
-use Rattle.logic.proofs.Codes.{Narrow}
+use Rattle.logic.specs.Expressions.{Expr, Not, Next, And, Until, Narrow, constNode, node1, node2, code}
 
 -- Whether the node is a variable.
 abbrev pub variable? : ℕ → Bool
@@ -55,19 +54,6 @@ variablesOf (c ∷ cs) = union (variableOf c) (variablesOf cs)
 unfoldable pub someTemporal : List ℕ → Bool
 someTemporal [] = false
 someTemporal (c ∷ cs) = temporal? c || someTemporal cs
-
--- Whether of the operators only `~ & +` are used.
-unfoldable pub plain? : Expr → Bool
-plain? (Const b) = true
-plain? (Var v) = true
-plain? (One Not e) = plain? e
-plain? (One Next e) = false
-plain? (One Future e) = false
-plain? (One Always e) = false
-plain? (Two And a b) = plain? a && plain? b
-plain? (Two Or a b) = plain? a && plain? b
-plain? (Two Until a b) = false
-plain? (Two Weak a b) = false
 
 -- The code of e stands in the nodes from place i on.
 abbrev pub Stands : List ℕ → ℕ → Expr → Type 0
