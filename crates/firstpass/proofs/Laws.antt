@@ -1,29 +1,30 @@
 -- Laws of one card and of the first pass.
-use mathlib.Core.Path.{_≡_, refl, sym, ap, _∙_, subst}
-use mathlib.Core.Logic.{inl, inr, by-cases}
+use mathlib.Core.Path.{_≡_, refl, sym, ap, _∙_}
+use mathlib.Core.Logic.{by-cases}
 use mathlib.Core.Bool.{Bool, true, false, not, _&&_, _||_}
 use mathlib.Core.List.{List, [], _∷_, _++_, append-nil}
 use Prim.Native.Nat.{ℕ, zero, suc, _+_, _-_, _<_, _≤_, min}
 use native.Mathlib.Omega.{arith}
 use native.Mathlib.Numerals.{add-one, unary-clauses}
-use native.Mathlib.Decide.{ℕ-discrete, decLe}
+use native.Mathlib.Decide.{ℕ-discrete, decLe, decLt}
 use lib.Dec.{ltb, eqb}
 use lib.ListN.{length, take, drop, getD, replicate, length-drop, length-take, drop-of-length-le, List·getD-eq-default}
-use lib.Seq.{take-all, drop-cons, take-at, drop-at, drop-drop}
+use lib.Seq.{take-all, drop-cons}
 use borrow.Author.Tests.{lt-leb, le-leb, lt-ltb, le-ltb, eq-eqb, ne-eqb}
-use Rattle.lists.specs.Lists.{_among_, ended, unended}
-use Rattle.lists.proofs.Laws.{among-dec, first-line, ended-next, unended-next, ended-none, unended-whole}
+use Rattle.lists.specs.Lists.{ended, unended}
 use Rattle.decks.specs.declared.Answer.{Answer}
 use Rattle.decks.specs.declared.Answer.the-variants.{Fine, BadByte, TooWide, BadStart, BadNumber, NoneOpen, TooManyCards}
 use Rattle.decks.specs.Answers.{Outcome, Got, Refused, refuse}
 use Rattle.decks.specs.Readings.{walk}
 use Rattle.decks.proofs.Outcomes.{walk-got, walk-refused}
-use Rattle.cards.specs.Card.{cardsOf, blank, cardColumns, fieldStart, fieldEnd, fieldColumns, continuations, column, columns, every, isBlank, isDigit, printable, isComment, numbered, Kind, Comment, Empty, Opening, Continuing, kindOf, closes, Open, Shut, Continued, opened, cardInForm, inForm}
+use Rattle.ends.specs.Ends.{lineLength}
+use Rattle.ends.proofs.Laws.{ended-at, unended-at, ended-last, unended-last}
+use Rattle.cards.specs.Card.{lastCard, cardsOf, blank, cardColumns, fieldStart, fieldEnd, fieldColumns, continuations, column, columns, every, isBlank, isDigit, printable, isComment, numbered, Kind, Comment, Empty, Opening, Continuing, kindOf, closes, Open, Shut, Continued, opened, cardInForm, inForm}
 use Rattle.firstpass.specs.declared.CardKind.{CardKind}
 use Rattle.firstpass.specs.declared.CardKind.the-variants.{Comment as CommentCard, Empty as EmptyCard, Opening as OpeningCard, Continuing as ContinuingCard}
 use Rattle.firstpass.specs.declared.Carded.{Carded}
 use Rattle.firstpass.specs.declared.Carded.the-variants.{Next, Fault}
-use Rattle.firstpass.specs.Passed.{lineLength, between, free, kindIs, openOf, outcomeOf, passed}
+use Rattle.firstpass.specs.Passed.{between, free, kindIs, openOf, outcomeOf, passed}
 
 -- ---- general: parts of lists
 
@@ -59,69 +60,18 @@ module _ {A : Type 0} where
 
 -- ---- where a card ends
 
-line-at-end : (b : ℕ) (bs : List ℕ) → b ≡ 10 → lineLength (b ∷ bs) ≡ 0
-unfolding lineLength
-line-at-end b bs e = simp (eq-eqb b 10 e, lineLength)
-
-line-on : (b : ℕ) (bs : List ℕ) → (b ≡ 10 → ⊥) → lineLength (b ∷ bs) ≡ suc (lineLength bs)
-unfolding lineLength
-line-on b bs n = simp (ne-eqb b 10 n, lineLength)
-
-module _ (text : List ℕ) (at i : ℕ) where
-  pub end-met : i < length text → at + lineLength (drop at text) ≡ i + lineLength (drop i text) → getD text i 0 ≡ 10 → i ≡ at + lineLength (drop at text)
-  end-met h e q = omega (arith, e, ap lineLength (drop-cons text i 0 h) ∙ line-at-end (getD text i 0) (drop (suc i) text) q)
-
-  pub end-on : i < length text → at + lineLength (drop at text) ≡ i + lineLength (drop i text) → (getD text i 0 ≡ 10 → ⊥) → at + lineLength (drop at text) ≡ i + 1 + lineLength (drop (i + 1) text)
-  end-on h e n =
-      omega (
-        arith,
-        e,
-        ap lineLength (drop-cons text i 0 h) ∙ line-on (getD text i 0) (drop (suc i) text) n ∙ ap (λ (k : ℕ). suc (lineLength (drop k text))) (sym (add-one i)),
-      )
-
-  pub end-last : length text ≤ i → at + lineLength (drop at text) ≡ i + lineLength (drop i text) → i ≡ at + lineLength (drop at text)
-  unfolding lineLength
-  end-last h e = omega (arith, e, ap lineLength (drop-of-length-le text {i = i} h))
-
-line-before : (line rest : List ℕ) → (10 among line → ⊥) → lineLength (line ++ 10 ∷ rest) ≡ length line
-line-before [] rest n = line-at-end 10 rest refl
-line-before (b ∷ bs) rest n = line-on b (bs ++ 10 ∷ rest) (λ e. n (inl (sym e))) ∙ ap suc (line-before bs rest (λ m. n (inr m)))
-
-line-whole : (t : List ℕ) → (10 among t → ⊥) → lineLength t ≡ length t
-unfolding lineLength
-line-whole [] n = refl
-line-whole (b ∷ bs) n = line-on b bs (λ e. n (inl (sym e))) ∙ ap suc (line-whole bs (λ m. n (inr m)))
-
-abbrev Carded-off : List ℕ → Type 0
-Carded-off t = cardsOf t ≡ take (lineLength t) t ∷ cardsOf (drop (suc (lineLength t)) t)
-
-ended-card : (line rest : List ℕ) → (10 among line → ⊥) → Carded-off (line ++ 10 ∷ rest)
-ended-card line rest n =
-    let t : List ℕ = line ++ 10 ∷ rest in
-    let off : drop (suc (length line)) t ≡ rest = ap (λ (k : ℕ). drop k t) (sym (add-one (length line))) ∙ sym (drop-drop 1 (length line) t) ∙ ap (drop 1) (drop-at line (10 ∷ rest) (length line) refl) in
-    rw (line-before line rest n, off, take-at line (10 ∷ rest) (length line) refl, ended-next line rest n, unended-next line rest) refl
-
-last-card : (t : List ℕ) → 0 < length t → (10 among t → ⊥) → Carded-off t
-unfolding ended unended
-last-card [] h n = absurd (omega arith)
-last-card (b ∷ bs) h n =
-    let t : List ℕ = b ∷ bs in
-    rw (line-whole t n, ended-none t n, unended-whole t n, take-all (length t) t (omega arith), drop-of-length-le t {i = suc (length t)} (omega arith)) refl
-
--- The first card of a text that has one, and behind its end the others.
-pub first-card : (t : List ℕ) → 0 < length t → cardsOf t ≡ take (lineLength t) t ∷ cardsOf (drop (suc (lineLength t)) t)
-first-card t h =
-    by-cases (among-dec 10 t) (λ m. let f = first-line t m in subst Carded-off (sym (f .3)) (ended-card (f .0) (f .1) (f .2))) (last-card t h)
-
 -- The cards from a place on: the one that begins there, then those behind its end.
 pub cards-next : (text : List ℕ) (at end : ℕ) → at < length text → end ≡ at + lineLength (drop at text) → cardsOf (drop at text) ≡ take (end - at) (drop at text) ∷ cardsOf (drop (end + 1) text)
-cards-next text at end h e =
-    let t : List ℕ = drop at text in
-    let long : lineLength t ≡ end - at = omega arith in
-    let next : at + suc (lineLength t) ≡ end + 1 = omega arith in
-    first-card t (omega (arith, length-drop at text))
-    ∙ ap (λ (k : ℕ). take k t ∷ cardsOf (drop (suc (lineLength t)) t)) long
-    ∙ ap (λ (l : List ℕ). take (end - at) t ∷ cardsOf l) (drop-drop (suc (lineLength t)) at text ∙ ap (λ (k : ℕ). drop k text) next)
+unfolding ended unended
+cards-next text at end h e = by-cases (decLt end (length text)) ended-here (λ n. last-here (omega arith))
+  where
+    ended-here : end < length text → cardsOf (drop at text) ≡ take (end - at) (drop at text) ∷ cardsOf (drop (end + 1) text)
+    ended-here l = rw (ended-at text at end e l (omega arith), unended-at text at end e l (omega arith)) refl
+
+    last-here : length text ≤ end → cardsOf (drop at text) ≡ take (end - at) (drop at text) ∷ cardsOf (drop (end + 1) text)
+    last-here l =
+        rw (ended-last text at end e l (omega arith), unended-last text at end e l (omega arith), take-all (end - at) (drop at text) (omega (arith, length-drop at text)), drop-of-length-le text {i = end + 1} (omega arith))
+        (ap lastCard (drop-cons text at 0 h) ∙ ap (λ (t : List ℕ). t ∷ []) (sym (drop-cons text at 0 h)))
 
 -- ---- every character of a part
 

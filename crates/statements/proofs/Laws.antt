@@ -19,7 +19,8 @@ use Rattle.cards.specs.Card.{cardsOf, blank, cardColumns, every, isBlank, isCom
 use Rattle.cards.specs.Statement.{Statement, Nothing, Held, laid, gathered, fieldOf}
 use Rattle.firstpass.specs.declared.CardKind.{CardKind}
 use Rattle.firstpass.specs.declared.CardKind.the-variants.{Continuing as ContinuingCard}
-use Rattle.firstpass.specs.Passed.{lineLength, kindIs}
+use Rattle.firstpass.specs.Passed.{kindIs}
+use Rattle.ends.specs.Ends.{lineLength}
 use Rattle.firstpass.proofs.Laws.{cards-next, field-filled}
 use Rattle.statements.specs.declared.Stmt.{Stmt}
 use Rattle.statements.specs.Hold.{held, stmtOf, Room, filled, withCard, foldedIn, opens, Formed, AtOpening, FirstOf, Takes}
