@@ -5,13 +5,14 @@ use mathlib.Core.Bool.{Bool, true, false, not, _&&_, _||_}
 use mathlib.Core.List.{List, [], _∷_, _++_, append-nil}
 use Prim.Native.Nat.{ℕ, zero, suc, _+_, _-_, _<_, _≤_, min}
 use native.Mathlib.Omega.{arith}
-use native.Mathlib.Numerals.{add-one, unary-clauses}
+use native.Mathlib.Numerals.{add-one}
 use native.Mathlib.Decide.{ℕ-discrete, decLe, decLt}
 use lib.Dec.{ltb, eqb}
 use lib.ListN.{length, take, drop, getD, replicate, length-drop, length-take, drop-of-length-le, List·getD-eq-default}
 use lib.Seq.{take-all, drop-cons}
 use borrow.Author.Tests.{lt-leb, le-leb, lt-ltb, le-ltb, eq-eqb, ne-eqb}
 use Rattle.lists.specs.Lists.{ended, unended}
+use Rattle.lists.proofs.Laws.{getD-any, take-min, drop-take, take-filled}
 use Rattle.decks.specs.declared.Answer.{Answer}
 use Rattle.decks.specs.declared.Answer.the-variants.{Fine, BadByte, TooWide, BadStart, BadNumber, NoneOpen, TooManyCards}
 use Rattle.decks.specs.Answers.{Outcome, Got, Refused, refuse}
@@ -25,38 +26,6 @@ use Rattle.firstpass.specs.declared.CardKind.the-variants.{Comment as Co
 use Rattle.firstpass.specs.declared.Carded.{Carded}
 use Rattle.firstpass.specs.declared.Carded.the-variants.{Next, Fault}
 use Rattle.firstpass.specs.Passed.{between, free, kindIs, openOf, outcomeOf, passed}
-
--- ---- general: parts of lists
-
-module _ {A : Type 0} where
-  -- A place of the list holds the same, whatever stands for the places behind its end.
-  pub getD-any : (l : List A) (i : ℕ) (d e : A) → i < length l → getD l i d ≡ getD l i e
-  getD-any [] i d e h = absurd (omega arith)
-  getD-any (x ∷ xs) zero d e h = refl
-  getD-any (x ∷ xs) (suc i) d e h = getD-any xs i d e (omega arith)
-
-  pub take-min : (n : ℕ) (l : List A) → take (min n (length l)) l ≡ take n l
-  take-min n l =
-      by-cases
-      (decLe n (length l))
-      (λ h. let e : min n (length l) ≡ n = omega arith in ap (λ (k : ℕ). take k l) e)
-      (λ h. take-all (min n (length l)) l (omega arith) ∙ sym (take-all n l (omega arith)))
-
-  pub drop-take : (i n : ℕ) (l : List A) → drop i (take (i + n) l) ≡ take n (drop i l)
-  drop-take zero n l = let e : 0 + n ≡ n = omega arith in ap (λ (k : ℕ). take k l) e
-  drop-take (suc i) n [] = ap (drop (suc i)) (take-all (suc i + n) [] (omega arith)) ∙ sym (take-all n [] (omega arith))
-  drop-take (suc i) n (x ∷ xs) = let e : suc i + n ≡ suc (i + n) = omega arith in ap (λ (k : ℕ). drop (suc i) (take k (x ∷ xs))) e ∙ drop-take i n xs
-
-  take-replicate : (n k : ℕ) (x : A) → n ≤ k → take n (replicate k x) ≡ replicate n x
-  take-replicate zero k x h = refl
-  take-replicate (suc n) zero x h = absurd (omega arith)
-  take-replicate (suc n) (suc k) x h = ap (λ (l : List A). x ∷ l) (take-replicate n k x (omega arith))
-
-  -- The first n places of a list that is filled up far enough.
-  pub take-filled : (n k : ℕ) (l : List A) (x : A) → n ≤ k → take n (l ++ replicate k x) ≡ take n l ++ replicate (n - length l) x
-  take-filled zero k l x h = let e : 0 - length l ≡ 0 = omega arith in sym (ap (λ (m : ℕ). replicate m x) e)
-  take-filled (suc n) k [] x h = simp unary-clauses (take-replicate (suc n) k x h)
-  take-filled (suc n) k (y ∷ ys) x h = simp unary-clauses (ap (λ (m : List A). y ∷ m) (take-filled n k ys x (omega arith)))
 
 -- ---- where a card ends
 

@@ -1,16 +1,16 @@
 -- Laws of the statement in hand and of the walk from statement to statement.
 use mathlib.Core.Path.{_≡_, refl, sym, ap, _∙_, subst}
 use mathlib.Core.Bool.{Bool, true, false, not, _&&_, _||_}
-use mathlib.Core.List.{List, [], _∷_, _++_, append-assoc}
-use Prim.Native.Nat.{ℕ, zero, suc, _+_, _-_, _*_, _<_, _≤_}
+use mathlib.Core.List.{List, [], _∷_, _++_}
+use Prim.Native.Nat.{ℕ, suc, _+_, _-_, _*_, _<_, _≤_}
 use native.Mathlib.Omega.{arith}
 use native.Mathlib.Numerals.{add-one}
 use lib.Dec.{ltb}
 use lib.ListN.{length, take, drop, getD, set, replicate, length-append, length-take, length-drop, length-replicate, drop-of-length-le}
-use lib.Seq.{take-all, take-suc, drop-at, drop-drop}
+use lib.Seq.{take-all, take-suc}
 use borrow.Author.Tests.{ltb-false}
-use Rattle.lists.specs.Lists.{padded, splice, ended, unended}
-use Rattle.lists.proofs.Laws.{padded-snoc, take-padded, splice-nothing, splice-splice, set-splice, length-splice}
+use Rattle.lists.specs.Lists.{splice, ended, unended}
+use Rattle.lists.proofs.Laws.{getD-filled, padded-append, padded-snoc, splice-nothing, splice-splice, set-splice, length-splice}
 use Rattle.decks.specs.declared.Answer.the-variants.{BadByte, TooWide, BadStart, BadNumber, TooManyCards}
 use Rattle.decks.specs.Answers.{Outcome, Got, Refused, refuse}
 use Rattle.decks.specs.Readings.{walk}
@@ -29,14 +29,6 @@ use Rattle.statements.specs.Hold.{held, stmtOf, Room, filled, withCard, 
 
 pub length-filled : (f : List ℕ) → length f ≤ 66 → length (filled f) ≡ 66
 length-filled f h = omega (arith, length-append f (replicate (66 - length f) blank), length-replicate {A = ℕ} (66 - length f) blank)
-
--- general: a place of a list that is filled up.
-getD-filled : (f : List ℕ) (m i x d : ℕ) → i < length f + m → getD (f ++ replicate m x) i d ≡ getD f i x
-getD-filled [] zero i x d h = absurd (omega arith)
-getD-filled [] (suc m) zero x d h = refl
-getD-filled [] (suc m) (suc i) x d h = getD-filled [] m i x d (omega arith)
-getD-filled (y ∷ ys) m zero x d h = refl
-getD-filled (y ∷ ys) m (suc i) x d h = getD-filled ys m i x d (omega arith)
 
 pub fill-none : (at : ℕ) (f l : List ℕ) → l ≡ splice at (take 0 (filled f)) l
 fill-none at f l = sym (splice-nothing at l)
@@ -66,27 +58,12 @@ fill-done s n i f m h w e =
     (withChars s n)
     (e ∙ ap (λ (x : List ℕ). splice (s .used) x (s .chars)) (take-all i (filled f) (omega (arith, length-filled f w))))
 
--- ---- general: one part behind a list that is filled up with zeros
-
-drop-zeros : (k n : ℕ) → drop {A = ℕ} k (replicate n 0) ≡ replicate (n - k) 0
-drop-zeros zero n = let e : n - 0 ≡ n = omega arith in ap (λ (j : ℕ). replicate j 0) (sym e)
-drop-zeros (suc k) zero = let e : 0 - suc k ≡ 0 = omega arith in ap (λ (j : ℕ). replicate j 0) (sym e)
-drop-zeros (suc k) (suc n) = drop-zeros k n ∙ (let e : n - k ≡ suc n - suc k = omega arith in ap (λ (j : ℕ). replicate j 0) e)
-
-pub splice-padded : (n : ℕ) (l v : List ℕ) → splice (length l) v (padded n l) ≡ padded n (l ++ v)
-splice-padded n l v =
-    let z : List ℕ = replicate (n - length l) 0 in
-    let less : n - length l - length v ≡ n - length (l ++ v) = omega (arith, length-append l v) in
-    ap (λ (x : List ℕ). x ++ (v ++ drop (length l + length v) (padded n l))) (take-padded n l)
-    ∙ ap (λ (x : List ℕ). l ++ (v ++ x)) (sym (drop-drop (length v) (length l) (l ++ z)) ∙ ap (drop (length v)) (drop-at l z (length l) refl) ∙ drop-zeros (length v) (n - length l) ∙ ap (λ (k : ℕ). replicate k 0) less)
-    ∙ sym (append-assoc l v (replicate (n - length (l ++ v)) 0))
-
 -- One more card in hand.
 pub held-more : (ks fs f : List ℕ) (n : ℕ) → length ks < 20 → length f ≤ 66 → withCard (held ks fs) n f ≡ held (ks ++ n ∷ []) (fs ++ filled f)
 held-more ks fs f n k w =
     let used : length fs + 66 ≡ length (fs ++ filled f) = omega (arith, length-append fs (filled f), length-filled f w) in
     let count : length ks + 1 ≡ length (ks ++ n ∷ []) = omega (arith, length-append ks (n ∷ [])) in
-    rw (splice-padded 1320 fs (filled f), used, padded-snoc 20 ks n k, count) refl
+    rw (padded-append 1320 fs (filled f), used, padded-snoc 20 ks n k, count) refl
 
 -- ---- the cards in form
 

@@ -11,8 +11,10 @@ use lib.Bits.{or-zero-l, or-zero-r}
 use Rattle.sets.specs.Sets.{union}
 use Rattle.logic.specs.Expressions.{Expr, Const, Var, One, Two, Op1, Op2, Not, Next, Future, Always, And, Or, Until, Weak, nodes, written, temporal, constNode, node1, node2, code, Below, Narrow}
 use Rattle.logic.proofs.Codes.{code-unique, length-code, nodes-some}
-use Rattle.terms.specs.Nodes.{placesOf, temporal?, spans, part, variableOf, variablesOf, someTemporal, Stands}
-use Rattle.terms.proofs.Laws.{union-assoc, spans-none, variable-low, variable-high}
+use Rattle.terms.specs.Nodes.{placesOf, temporal?, spans, variableOf, variablesOf, someTemporal, Stands}
+use Rattle.lists.specs.Lists.{part}
+use Rattle.terms.proofs.Laws.{spans-none, variable-low, variable-high}
+use Rattle.sets.proofs.Laws.{union-assoc}
 
 -- ---- how many operands a node has
 

@@ -2,9 +2,9 @@
 use mathlib.Core.Path.{_≡_}
 use mathlib.Core.Bool.{Bool, true, false, _||_}
 use mathlib.Core.List.{List, [], _∷_, _++_}
-use Prim.Native.Nat.{ℕ, zero, suc, _+_, _-_}
+use Prim.Native.Nat.{ℕ, zero, suc, _+_}
 use lib.Dec.{ltb, leb}
-use lib.ListN.{take, drop}
+use lib.ListN.{drop}
 use Rattle.sets.specs.Sets.{only, union, width}
 use Rattle.logic.specs.Expressions.{Expr, Not, Next, And, Until, Narrow, constNode, node1, node2, code}
 
@@ -36,10 +36,6 @@ unfoldable pub spans : ℕ → List ℕ → ℕ
 spans n [] = 0
 spans zero (c ∷ cs) = 0
 spans (suc n) (c ∷ cs) = suc (spans (n + placesOf c) cs)
-
--- The nodes from place i up to but without place j.
-abbrev pub part : ℕ → ℕ → List ℕ → List ℕ
-part i j cs = take (j - i) (drop i cs)
 
 -- The set of the variable that the node is; nothing of any other node, nor of a variable for which a word has no room.
 unfoldable pub variableOf : ℕ → ℕ
