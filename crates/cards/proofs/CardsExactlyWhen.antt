@@ -16,7 +16,7 @@ use Rattle.decks.specs.Answers.{Outcome, Got, Refused, refuse}
 use Rattle.decks.specs.Readings.{walk}
 use Rattle.cards.specs.Card.{blank, cardColumns, columns, every, isBlank, isDigit, printable, isComment, kindOf, numbered, Open, Shut, opened, cardInForm, inForm}
 use Rattle.cards.specs.Columns.{punched, remark, Margins, Formed}
-use Rattle.cards.proofs.Outcomes.{walk-got, walk-first}
+use Rattle.decks.proofs.Outcomes.{walk-got, walk-first}
 use Rattle.cards.proofs.ColumnLaws.{placed, columns-placed, every-each, every-column, printable-byte}
 use Rattle.cards.proofs.FormLaws.{numbered-margins, card-formed, cards-formed}
 

@@ -9,15 +9,14 @@ use Prim.Native.Char.{code as character}
 use native.Mathlib.Omega.{arith}
 use lib.Dec.{eqb}
 use Rattle.lists.specs.Lists.{_among_}
-use Rattle.logic.specs.Expressions.{Expr, One, Two, Op1, Op2, Not, Next, Future, Always, levels, constSign, sign1, sign2, spelling}
+use Rattle.logic.specs.Expressions.{Expr, One, Two, Op1, Op2, Not, Next, Future, Always, levels, constSign, sign1, sign2, spelling, Below}
 use Rattle.logic.specs.Decks.{base}
-use Rattle.logic.proofs.Codes.{Below}
 use Rattle.decks.specs.declared.Answer.the-variants.{NotDue, TooDeep}
 use Rattle.decks.specs.Answers.{Outcome, Got, Refused}
 use Rattle.decks.specs.Readings.{Reading, Whole, Wrong, Deep, onward}
 use Rattle.cards.specs.Grammar.{Counted, Number, NoNumber, readNumber, Sign, Constant, Variable, Before, Bracket, NoSign, signOf, jointOf, past, pastJoint, variable, levelled, begins, readExpr}
 use Rattle.cards.specs.Read.{wholeExpr}
-use Rattle.cards.proofs.Outcomes.{refused-got}
+use Rattle.decks.proofs.Outcomes.{refused-got}
 use Rattle.cards.proofs.GrammarLaws.{Begins, sign-begins, Joins, joint-joins, read-sign, one-sign, bracket-sign, past-joint, two-no-digit, spelling-read, read-spelling}
 use Rattle.cards.proofs.WordLaws.{whole-expr-spelt, whole-expr-got}
 

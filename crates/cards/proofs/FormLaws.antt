@@ -16,7 +16,7 @@ use Rattle.decks.specs.Readings.{walk}
 use Rattle.cards.specs.Card.{blank, fieldEnd, cardColumns, continuations, columns, every, isBlank, isDigit, printable, Kind, Comment, Empty, Opening, Continuing, isComment, kindOf, numbered, Open, Shut, Continued, opened, cardInForm, inForm}
 use Rattle.cards.specs.Statement.{Statement, fieldOf, Hand, Nothing, Held, laid, folded, gathered, statementsOf}
 use Rattle.cards.specs.Columns.{punched, remark, cardText, deckText, together, Margins, Formed}
-use Rattle.cards.proofs.Outcomes.{Given, given-got, got-given, refuse-given, refuse-not-given, refused-got, got-eq, walk-first}
+use Rattle.decks.proofs.Outcomes.{Given, given-got, got-given, refuse-given, refuse-not-given, refused-got, got-eq, walk-first}
 use Rattle.cards.proofs.StatementLaws.{textOf}
 use Rattle.cards.proofs.ColumnLaws.{field-text, blank-text, every-each, every-column, digit-columns, printable-byte}
 

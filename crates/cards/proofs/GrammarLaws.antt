@@ -11,8 +11,8 @@ use native.Mathlib.Decide.{decLt, ℕ-discrete}
 use borrow.Author.Tests.{le-leb, leb-true, eq-eqb, ne-eqb, eqb-true}
 use lib.Dec.{eqb, leb}
 use Rattle.lists.specs.Lists.{chosen}
-use Rattle.logic.specs.Expressions.{Expr, Const, Var, One, Two, Op1, Op2, Not, Next, Future, Always, And, Or, Until, Weak, levels, constSign, sign1, sign2, decimal, spelling}
-use Rattle.logic.proofs.Codes.{Below, levels-some}
+use Rattle.logic.specs.Expressions.{Expr, Const, Var, One, Two, Op1, Op2, Not, Next, Future, Always, And, Or, Until, Weak, levels, constSign, sign1, sign2, decimal, spelling, Below}
+use Rattle.logic.proofs.Codes.{levels-some}
 use Rattle.logic.proofs.Spelling.{Digit, NoDigit, decimal-one, decimal-two}
 use Rattle.decks.specs.Readings.{Reading, Whole, Wrong, Deep, onward}
 use Rattle.cards.specs.Card.{isDigit}

@@ -1,4 +1,3 @@
-pub mod Outcomes
 pub mod GrammarLaws
 pub mod WordLaws
 pub mod TypedLaws

@@ -17,7 +17,8 @@ use Rattle.cards.specs.Statement.{Statement, inked, statementsOf}
 use Rattle.cards.specs.Typed.{Typed, spelt, deckOf, Fits}
 use Rattle.cards.specs.Read.{Due, DueVars, DueInit, DueAny, DueEquation, DueEnd, DueNone, Sofar, begun, statementRead, cardsEnd, readCards}
 use Rattle.cards.specs.Columns.{CardsAre, deckText, together, Formed}
-use Rattle.cards.proofs.Outcomes.{Given, got-given, given-got, refuse-given, afterwards-given, got-eq, complete-all, all-complete}
+use Rattle.decks.proofs.Outcomes.{Given, got-given, given-got, refuse-given, afterwards-given, got-eq}
+use Rattle.decks.proofs.Complete.{complete-all, all-complete}
 use Rattle.cards.proofs.TypedLaws.{ofVariable, rising-own, typed-all-have, all-have-typed, fits-accepted}
 use Rattle.cards.proofs.StatementLaws.{textOf, sofar, Stated, walk-spelt, spelt-walk}
 use Rattle.cards.proofs.ColumnLaws.{cards-are}

@@ -1,7 +1,7 @@
 -- Laws of the walk over statements: it comes to a result exactly where the statements are the spelling of what was typed, within the limits.
 use mathlib.Core.Path.{_≡_, refl, sym, ap, ap₂, _∙_, subst}
 use mathlib.Core.Logic.{_⊎_, inl, inr}
-use mathlib.Core.Bool.{false, not}
+use mathlib.Core.Bool.{false}
 use mathlib.Core.List.{List, [], _∷_, _++_, map, map-append, append-assoc, append-nil, nil≢cons, head-eq-of-cons-eq, tail-eq-of-cons-eq}
 use mathlib.Core.Option.{Option, none, some}
 use Prim.Native.Nat.{ℕ, suc, _+_, _^_, _<_, _≤_}
@@ -14,9 +14,9 @@ use Rattle.lists.specs.Texts.{bytes}
 use Rattle.lists.proofs.Laws.{each-at, each-append, among-right}
 use Rattle.sets.specs.Sets.{_⊆_, has, inside}
 use Rattle.sets.proofs.Laws.{has-true, true-has, inside-true, true-inside}
-use Rattle.logic.specs.Expressions.{Expr, Const, nodes, levels, written, temporal, decimal, spelling}
+use Rattle.logic.specs.Expressions.{Expr, Const, nodes, levels, written, temporal, decimal, spelling, Below}
 use Rattle.logic.specs.Decks.{Equation, Allowed, base, totalNodes}
-use Rattle.logic.proofs.Codes.{Below, below-more, written-below}
+use Rattle.logic.proofs.Codes.{below-more, written-below}
 use Rattle.logic.proofs.Spelling.{NoDigit}
 use Rattle.decks.specs.declared.Answer.the-variants.{NotDue, ManyInitials}
 use Rattle.decks.specs.Answers.{Outcome, Got, Refused, refuse, afterwards}
@@ -25,10 +25,11 @@ use Rattle.cards.specs.Statement.{Statement, inked}
 use Rattle.cards.specs.Grammar.{Counted, Number, NoNumber, readNumber}
 use Rattle.cards.specs.Typed.{Typed, binaryFrom, initSpelt, equationSpelt, spelt, firstVars, Fits}
 use Rattle.cards.specs.Read.{behind, Due, DueVars, DueInit, DueAny, DueEquation, DueEnd, DueNone, Sofar, begun, wholeExpr, wholeNumber, varsStatement, readBinary, initStatement, withEquation, equationStatement, propStatement, endStatement, equationOrProp, dueStatement, statementRead}
-use Rattle.cards.proofs.Outcomes.{Given, refuse-given, refuse-not-given, afterwards-given, walk-got, walk-keeps}
+use Rattle.decks.proofs.Outcomes.{Given, refuse-given, refuse-not-given, got-given, afterwards-given, walk-got, walk-keeps}
 use Rattle.cards.proofs.GrammarLaws.{decimal-read, read-decimal}
 use Rattle.cards.proofs.WordLaws.{behind-word, word-behind, on-word, on-other, word-given, whole-number-spelt, whole-number-got, whole-expr-spelt, whole-expr-got, binary-read, read-binary}
-use Rattle.cards.proofs.TypedLaws.{plain-temporal, temporal-plain, total-append, member-first-vars, first-vars-most, below-subset, subset-below}
+use Rattle.cards.proofs.TypedLaws.{member-first-vars, first-vars-most, below-subset, subset-below}
+use Rattle.logic.proofs.Rights.{plain-temporal, temporal-plain, total-append}
 
 -- ---- the texts of the statements
 
@@ -283,7 +284,10 @@ read-kept past n s so k = rw (map-append textOf past (s ∷ [])) (statement-kept
 
 -- Statements that are read to the end are the spelling of what was typed, and that keeps the limits; 15 is judged behind them.
 pub walk-spelt : (n : ℕ) (ss : List Statement) (so : Sofar) → walk statementRead n ss begun ≡ Got so → so .due ≡ DueNone → (map textOf ss ≡ spelt (so .typed)) × Stated (so .typed)
-walk-spelt n ss so e d = subst (λ (u : Due). Kept (map textOf ss) (sofar u (so .typed))) d (walk-keeps statementRead (λ past s. Kept (map textOf past) s) read-kept ss [] n begun so (refl, refl) e)
+walk-spelt n ss so e d =
+    let first : n + 0 ≡ n = omega arith in
+    let kept = walk-keeps statementRead n (λ past s. Kept (map textOf past) s) (λ past. read-kept past (n + length past)) ss [] begun (refl, refl) in
+    subst (λ (u : Due). Kept (map textOf ss) (sofar u (so .typed))) d (got-given (Kept (map textOf ss)) (walk statementRead n ss begun) so (rw first at kept) e)
 
 -- ---- spelt, then read
 

@@ -12,16 +12,15 @@ use lib.Dec.{eqb, ltb}
 use lib.Pow.{pow-pos, mod-pow-add}
 use Rattle.sets.specs.Sets.{bit}
 use Rattle.sets.proofs.Laws.{bit-or-zero}
-use Rattle.logic.specs.Expressions.{Expr, levels, decimal, spelling}
+use Rattle.logic.specs.Expressions.{Expr, levels, decimal, spelling, Below}
 use Rattle.logic.specs.Decks.{base}
-use Rattle.logic.proofs.Codes.{Below}
 use Rattle.decks.specs.declared.Answer.the-variants.{NotDue}
 use Rattle.decks.specs.Answers.{Outcome, Got, refuse}
 use Rattle.decks.specs.Readings.{Reading, Whole, Wrong, Deep}
 use Rattle.cards.specs.Grammar.{Counted, Number, NoNumber, digitValue, readNumber, readExpr}
 use Rattle.cards.specs.Typed.{binaryFrom}
 use Rattle.cards.specs.Read.{behind, wholeExpr, wholeNumber, readBinary, Sofar, onWord}
-use Rattle.cards.proofs.Outcomes.{Given, refused-got, got-eq}
+use Rattle.decks.proofs.Outcomes.{Given, refused-got, got-eq}
 use Rattle.cards.proofs.GrammarLaws.{decimal-read, read-decimal, spelling-read, read-spelling}
 
 -- general:

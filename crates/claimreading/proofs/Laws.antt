@@ -2,7 +2,7 @@
 use mathlib.Core.Path.{_≡_, refl, sym, ap, _∙_, subst}
 use mathlib.Core.Bool.{Bool, true, false, not}
 use mathlib.Core.List.{List, [], _∷_, _++_}
-use Prim.Native.Nat.{ℕ, zero, suc, _+_, _-_, _/_, _%_, _<_, _≤_}
+use Prim.Native.Nat.{ℕ, _+_, _-_, _/_, _%_, _<_, _≤_}
 use native.Mathlib.Omega.{arith}
 use native.Mathlib.Numerals.{add-one}
 use lib.Dec.{ltb, eqb}
@@ -12,7 +12,6 @@ use borrow.Author.Tests.{lt-ltb, le-ltb, eq-eqb, ne-eqb}
 use Rattle.lists.specs.Lists.{padded, ended, unended}
 use Rattle.lists.proofs.Laws.{padded-snoc, padded-nil}
 use Rattle.sets.specs.Sets.{inside}
-use Rattle.logic.specs.Decks.{base}
 use Rattle.logic.specs.Meaning.{Claim}
 use Rattle.decks.specs.declared.Answer.{Answer}
 use Rattle.decks.specs.declared.Answer.the-variants.{Fine, TooLong, BadFrame, Outside}
@@ -20,11 +19,14 @@ use Rattle.decks.specs.declared.ClaimRead.{ClaimRead}
 use Rattle.decks.specs.Answers.{Outcome, Got, Refused, refuse, afterwards}
 use Rattle.decks.specs.Stored.{claimRead}
 use Rattle.frames.specs.Hex.{number}
-use Rattle.frames.specs.Read.{kindOf, wholeNumber, countLine, walk, ClaimSofar, ClaimDue, StatesDue, ClaimWhole, sizesLine, stateLine, claimLine, claimEnd, readClaim}
+use Rattle.frames.specs.Read.{kindOf, wholeNumber, countLine, ClaimSofar, ClaimDue, StatesDue, ClaimWhole, sizesLine, stateLine, claimLine, claimEnd, readClaim}
+use Rattle.decks.specs.Readings.{walk}
 use Rattle.lines.specs.declared.Number.{Number}
 use Rattle.lines.specs.declared.Number.the-variants.{Good, Bad}
-use Rattle.lines.specs.Steps.{lineLength, numberRead, countIs}
-use Rattle.lines.proofs.Laws.{whole-number-none, whole-number-some, count-line, ended-at, unended-at, ended-last, unended-last}
+use Rattle.lines.specs.Steps.{numberRead, countIs}
+use Rattle.ends.specs.Ends.{lineLength}
+use Rattle.lines.proofs.Laws.{whole-number-none, whole-number-some, count-line}
+use Rattle.ends.proofs.Laws.{ended-at, unended-at, ended-last, unended-last}
 use Rattle.claimreading.specs.declared.Held.{Held}
 use Rattle.claimreading.specs.declared.LineRead.{LineRead}
 use Rattle.claimreading.specs.Held.{heldOf, statesOf, lineOf, StatesAfter, Came}

@@ -1,7 +1,6 @@
 // The reader of claims.
 ghost use mathlib.Core.Path.{_≡_};
-ghost use mathlib.Core.List.{List};
-ghost use Prim.Native.Nat.{ℕ, _+_, _<_, _≤_};
+ghost use Prim.Native.Nat.{_+_, _<_, _≤_};
 ghost use lib.ListN.{length};
 ghost use Rattle.logic.specs.Decks.{base};
 ghost use Rattle.decks.specs.declared.Answer.the-variants.{BadFrame};
@@ -186,7 +185,7 @@ pub fn read_claim(text: &[u8], vars: u64) -> decks::ClaimRead
     let mut at = 0;
     let mut n = 1u64;
     while at < text.len() {
-        let end = lines::line_end(text, at);
+        let end = ends::line_end(text, at);
         if end == text.len() {
             return refused(decks::Answer::BadFrame(CLAIM_TEXT, 0));
         }

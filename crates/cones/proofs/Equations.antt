@@ -1,94 +1,16 @@
--- The arrays that hold a deck's equations, read equation by equation.
-use mathlib.Core.Path.{_≡_, refl, sym, ap, _∙_, subst}
-use mathlib.Core.Bool.{false}
-use mathlib.Core.List.{List, [], _∷_, _++_, append-assoc}
-use Prim.Native.Nat.{ℕ, zero, suc, _+_, _-_, _<_, _≤_}
-use native.Mathlib.Omega.{arith}
-use native.Mathlib.Nat.{zero-add}
-use lib.ListN.{length, take, drop, getD, replicate, length-append, length-map, List·getD-map}
-use lib.Seq.{drop-cons}
-use Rattle.lists.specs.Lists.{Each, padded}
-use Rattle.lists.proofs.Laws.{each-getD, getD-padded}
-use Rattle.logic.specs.Expressions.{Const, nodes, code}
+-- The right sides stand in the array of nodes.
+use mathlib.Core.Path.{_≡_, sym, ap, _∙_, subst}
+use mathlib.Core.List.{List, _++_, append-assoc}
+use Prim.Native.Nat.{ℕ, suc, _-_, _<_}
+use lib.ListN.{length, take, drop, replicate}
+use Rattle.logic.specs.Expressions.{code, Narrow}
 use Rattle.logic.specs.Decks.{Equation, base, totalNodes}
-use Rattle.logic.proofs.Codes.{Narrow, length-code}
 use Rattle.terms.specs.Nodes.{Stands}
 use Rattle.terms.proofs.Trees.{stands-at}
-use Rattle.decks.specs.Stored.{leftsOf, endsOf, codes, HoldsEquations}
-
--- general:
-
--- What stands for an equation behind the last one.
-abbrev noEquation : Equation
-noEquation = record { left = 0; right = Const false }
-
--- Equation i.
-abbrev pub equation : List Equation → ℕ → Equation
-equation qs i = getD qs i noEquation
-
-pub each-equation : (P : Equation → Type 0) (qs : List Equation) (i : ℕ) → Each P qs → i < length qs → P (equation qs i)
-each-equation P qs i = each-getD P qs i noEquation
-
-pub length-codes : (qs : List Equation) → length (codes qs) ≡ totalNodes qs
-unfolding codes totalNodes
-length-codes [] = refl
-length-codes (q ∷ qs) = omega (arith, length-append (code (q .right)) (codes qs), length-code (q .right), length-codes qs)
-
-pub length-ends : (n : ℕ) (qs : List Equation) → length (endsOf n qs) ≡ length qs
-unfolding endsOf
-length-ends n [] = refl
-length-ends n (q ∷ qs) = ap suc (length-ends (n + nodes (q .right)) qs)
-
-pub lefts-at : (qs : List Equation) (i : ℕ) → getD (leftsOf qs) i 0 ≡ equation qs i .left
-lefts-at qs i = List·getD-map (λ (q : Equation). q .left) qs i noEquation
-
--- The nodes of the equations before the next one.
-pub nodes-before : (qs : List Equation) (i : ℕ) → i < length qs → totalNodes (take (suc i) qs) ≡ totalNodes (take i qs) + nodes (equation qs i .right)
-unfolding totalNodes
-nodes-before [] i h = absurd (omega arith)
-nodes-before (q ∷ qs) zero h = omega arith
-nodes-before (q ∷ qs) (suc i) h = omega (arith, nodes-before qs i (omega arith))
-
-pub ends-at : (n : ℕ) (qs : List Equation) (i : ℕ) → i < length qs → getD (endsOf n qs) i 0 ≡ n + totalNodes (take (suc i) qs)
-unfolding endsOf totalNodes
-ends-at n [] i h = absurd (omega arith)
-ends-at n (q ∷ qs) zero h = omega arith
-ends-at n (q ∷ qs) (suc i) h = omega (arith, ends-at (n + nodes (q .right)) qs i (omega arith))
-
-pub codes-at : (qs : List Equation) (i : ℕ) → i < length qs → codes qs ≡ codes (take i qs) ++ (code (equation qs i .right) ++ codes (drop (suc i) qs))
-unfolding codes
-codes-at [] i h = absurd (omega arith)
-codes-at (q ∷ qs) zero h = refl
-codes-at (q ∷ qs) (suc i) h =
-    ap (λ (l : List ℕ). code (q .right) ++ l) (codes-at qs i (omega arith))
-    ∙ sym (append-assoc (code (q .right)) (codes (take i qs)) (code (equation qs i .right) ++ codes (drop (suc i) qs)))
-
-long : (n : ℕ) (l : List ℕ) → length l ≤ length (padded n l)
-long n l = omega (arith, length-append l (replicate (n - length l) 0))
+use Rattle.decks.specs.Stored.{codes, HoldsEquations}
+use Rattle.decks.proofs.Stored.{equation, within, length-codes, codes-at}
 
 module _ (qs : List Equation) (lefts ends cs : List ℕ) (n i : ℕ) (held : HoldsEquations qs lefts ends cs n) (h : i < n) where
-  pub within : i < length qs
-  within = omega (arith, held .count-is)
-
-  pub left-within : i < length lefts
-  left-within = rw (held .lefts-are) (omega (arith, within, long (base .equations) (leftsOf qs), length-map qs (λ (q : Equation). q .left)))
-
-  pub end-within : i < length ends
-  end-within = rw (held .ends-are) (omega (arith, within, long (base .equations) (endsOf 0 qs), length-ends 0 qs))
-
-  pub left-is : getD lefts i 0 ≡ equation qs i .left
-  left-is = rw (held .lefts-are) (getD-padded (base .equations) (leftsOf qs) i ∙ lefts-at qs i)
-
-  pub end-is : getD ends i 0 ≡ totalNodes (take (i + 1) qs)
-  end-is =
-      let e : suc i ≡ i + 1 = omega arith in
-      rw (held .ends-are) (getD-padded (base .equations) (endsOf 0 qs) i ∙ ends-at 0 qs i within ∙ zero-add _ ∙ ap (λ (k : ℕ). totalNodes (take k qs)) e)
-
-  pub next-end : totalNodes (take (i + 1) qs) ≡ totalNodes (take i qs) + nodes (equation qs i .right)
-  next-end =
-      let e : i + 1 ≡ suc i = omega arith in
-      ap (λ (k : ℕ). totalNodes (take k qs)) e ∙ nodes-before qs i within
-
   pub right-stands : Narrow (equation qs i .right) → Stands cs (totalNodes (take i qs)) (equation qs i .right)
   right-stands w =
       let zeros : List ℕ = replicate (base .equationNodes - length (codes qs)) 0 in
@@ -96,13 +18,8 @@ module _ (qs : List Equation) (lefts ends cs : List ℕ) (n i : ℕ) (held : Hol
       let its : List ℕ = code (equation qs i .right) in
       let rest : List ℕ = codes (drop (suc i) qs) in
       let all : cs ≡ before ++ (its ++ (rest ++ zeros)) =
-      held .nodes-are ∙ ap (λ (l : List ℕ). l ++ zeros) (codes-at qs i within) ∙ append-assoc before (its ++ rest) zeros ∙ ap (λ (l : List ℕ). before ++ l) (append-assoc its rest zeros) in
+      held .nodes-are ∙ ap (λ (l : List ℕ). l ++ zeros) (codes-at qs i (within qs lefts ends cs n i held h)) ∙ append-assoc before (its ++ rest) zeros ∙ ap (λ (l : List ℕ). before ++ l) (append-assoc its rest zeros) in
       subst
       (λ (k : ℕ). Stands cs k (equation qs i .right))
       (length-codes (take i qs))
       (subst (λ (l : List ℕ). Stands l (length before) (equation qs i .right)) (sym all) (stands-at before (rest ++ zeros) (equation qs i .right) w))
-
-  pub next-equation : drop i qs ≡ equation qs i ∷ drop (i + 1) qs
-  next-equation =
-      let e : suc i ≡ i + 1 = omega arith in
-      drop-cons qs i noEquation within ∙ ap (λ (k : ℕ). equation qs i ∷ drop k qs) e

@@ -8,13 +8,13 @@ use lib.ListN.{length, getD}
 use lib.Count.{ones-le}
 use Rattle.lists.proofs.Laws.{each-all}
 use Rattle.sets.specs.Sets.{_∋_, _⊆_, only, union, without, size, lowestOf, width}
-use Rattle.sets.proofs.Laws.{bit-zero, bit-union, bit-or-zero, subset-refl, subset-trans, subset-antisym, union-left, union-right, union-least, only-bit, only-least, only-within, without-left, without-out, without-subset, without-lt, member-lt, size-new, lowest-found}
+use Rattle.sets.proofs.Laws.{bit-zero, bit-union, bit-or-zero, subset-refl, subset-trans, subset-antisym, union-left, union-right, union-least, only-bit, only-least, only-within, without-left, without-out, without-subset, without-lt, member-lt, size-new, lowest-found, nothing-within}
 use Rattle.logic.specs.Expressions.{written}
 use Rattle.logic.specs.Decks.{Equation, base}
 use Rattle.logic.specs.Cones.{Closed, cone}
 use Rattle.logic.proofs.Cone.{cone-is, cone-only}
 use Rattle.cones.specs.Dependencies.{dependsOn, table}
-use Rattle.cones.proofs.Table.{nothing-within, written-depends, table-at, table-within}
+use Rattle.cones.proofs.Table.{written-depends, table-at, table-within}
 
 -- With each variable, t has the variable's set in the table.
 abbrev Follows : List ℕ → ℕ → Type 0

@@ -2,7 +2,7 @@
 use mathlib.Core.Path.{_≡_, refl, sym, ap, ap₂, _∙_}
 use mathlib.Core.Logic.{inl, inr, by-cases}
 use mathlib.Core.List.{List, [], _∷_}
-use Prim.Native.Nat.{ℕ, zero, suc, _+_, _-_, _<_, _≤_}
+use Prim.Native.Nat.{ℕ, zero, suc, _+_, _<_, _≤_}
 use native.Mathlib.Omega.{arith}
 use native.Mathlib.Nat.{zero-add}
 use native.Mathlib.Decide.{ℕ-discrete, decLt}
@@ -10,22 +10,18 @@ use borrow.Author.Tests.{eq-eqb, ne-eqb}
 use lib.ListN.{length, take, drop, getD, set, replicate, length-set, length-replicate, getD-replicate, drop-of-length-le, List·getD-eq-default}
 use lib.Seq.{getD-set-same, getD-set-other, ext-getD}
 use lib.Bits.{or-zero-l, or-zero-r}
-use Rattle.lists.specs.Lists.{_among_}
+use Rattle.lists.specs.Lists.{_among_, part}
 use Rattle.sets.specs.Sets.{_∋_, _⊆_, union}
-use Rattle.sets.proofs.Laws.{bit-zero, subset-refl, subset-trans, union-left, union-right, union-least}
-use Rattle.logic.specs.Expressions.{Expr, nodes, written}
+use Rattle.sets.proofs.Laws.{nothing-within, subset-refl, subset-trans, union-left, union-right, union-least, union-assoc}
+use Rattle.logic.specs.Expressions.{Expr, written, Below}
 use Rattle.logic.specs.Decks.{Equation, base, totalNodes}
 use Rattle.logic.specs.Cones.{Closed}
-use Rattle.logic.proofs.Codes.{Below, below-more, written-below}
-use Rattle.terms.specs.Nodes.{part, variablesOf}
-use Rattle.terms.proofs.Laws.{union-assoc}
+use Rattle.logic.proofs.Codes.{below-more, written-below}
+use Rattle.terms.specs.Nodes.{variablesOf}
 use Rattle.terms.proofs.Trees.{stands-written}
 use Rattle.cones.specs.Dependencies.{dependsOn, rows, table, Small, Given}
-use Rattle.cones.proofs.Equations.{equation, each-equation, within, left-is, left-within, end-within, end-is, next-end, right-stands, next-equation}
-
--- general:
-pub nothing-within : (t : ℕ) → 0 ⊆ t
-nothing-within t i z = absurd (omega (arith, z, bit-zero i))
+use Rattle.cones.proofs.Equations.{right-stands}
+use Rattle.decks.proofs.Stored.{equation, each-equation, within, left-is, left-within, end-within, end-is, next-end, next-equation}
 
 -- ---- what a variable depends on
 

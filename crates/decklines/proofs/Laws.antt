@@ -1,37 +1,41 @@
 -- Laws of the lines of a deck.
 use mathlib.Core.Path.{_≡_, refl, sym, ap, _∙_, subst}
 use mathlib.Core.Bool.{Bool, true, false, not}
-use mathlib.Core.List.{List, [], _∷_, _++_, map, append-assoc, append-nil}
-use Prim.Native.Nat.{ℕ, zero, suc, _+_, _-_, _*_, _%_, _^_, _<_, _≤_}
+use mathlib.Core.List.{List, [], _∷_, _++_}
+use Prim.Native.Nat.{ℕ, suc, _+_, _-_, _*_, _%_, _^_, _<_, _≤_}
 use native.Mathlib.Omega.{arith}
 use native.Mathlib.Numerals.{add-one}
-use lib.Dec.{ltb, eqb}
-use lib.ListN.{length, take, drop, getD, set, replicate, length-append, length-drop, length-set, length-replicate, drop-of-length-le}
-use lib.Seq.{drop-cons, drop-nil, getD-take, length-take-le, drop-drop, take-append-seam, drop-append-add}
-use borrow.Author.Tests.{lt-ltb, le-ltb, eq-eqb, ne-eqb}
+use lib.Dec.{ltb}
+use lib.ListN.{length, take, drop, getD, set, replicate, length-append, length-drop, length-set, drop-of-length-le}
+use lib.Seq.{drop-cons, getD-take, length-take-le, drop-drop}
+use borrow.Author.Tests.{lt-ltb, le-ltb, eq-eqb, ne-eqb, not-false}
 use Rattle.lists.specs.Lists.{stands, padded, splice}
-use Rattle.lists.proofs.Laws.{padded-snoc, padded-nil, take-padded, length-splice}
+use Rattle.lists.proofs.Laws.{padded-append, padded-snoc, padded-nil, take-padded, length-splice}
 use Rattle.sets.specs.Sets.{has, inside, only, union}
-use Rattle.sets.proofs.Laws.{ext, bit-union, bit-zero, only-within}
-use Rattle.logic.specs.Expressions.{Expr, Const, nodes, written, temporal, code}
-use Rattle.logic.specs.Decks.{Deck, Equation, base, totalNodes}
-use Rattle.logic.proofs.Codes.{length-code}
+use Rattle.sets.proofs.Laws.{only-within}
+use Rattle.logic.specs.Expressions.{Expr, nodes, written, temporal, code}
+use Rattle.logic.specs.Decks.{Deck, Equation, totalNodes}
 use Rattle.decks.specs.declared.Answer.{Answer}
-use Rattle.decks.specs.declared.Answer.the-variants.{Fine, TooLong, BadFrame, Outside, Temporal, TooDeep, ManyInitials, ManyEquations, ManyNodes}
+use Rattle.decks.specs.declared.Answer.the-variants.{Fine, BadFrame, Outside, Temporal, TooDeep, ManyInitials, ManyEquations, ManyNodes}
 use Rattle.decks.specs.Answers.{Outcome, Got, Refused, refuse, afterwards}
+use Rattle.decks.proofs.Outcomes.{refuse-got, afterwards-got}
+use Rattle.decks.proofs.Complete.{left-more}
+use Rattle.decks.proofs.Stored.{length-lefts, length-ends, length-codes, lefts-more, ends-more, codes-more}
+use Rattle.logic.proofs.Rights.{total-append}
 use Rattle.decks.specs.Stored.{leftsOf, endsOf, codes, HoldsEquations}
 use Rattle.frames.specs.Hex.{number}
-use Rattle.frames.specs.Read.{Due, DueSet, DueInit, DueAny, DueEquation, DueCount, DueNone, Sofar, begun, Reading, Whole, Wrong, Deep, readExpr, wholeExpr, wholeNumber, setLine, initLine, propertyLine, withEquation, equationLine, kindOf, lastLeft, leftSet}
+use Rattle.frames.specs.Read.{DueInit, DueAny, DueEquation, DueCount, Sofar, begun, readExpr, wholeExpr, setLine, initLine, propertyLine, withEquation, equationLine, kindOf, lastLeft}
+use Rattle.decks.specs.Readings.{Reading, Whole, Wrong, Deep, leftSet}
 use Rattle.lines.specs.declared.Number.{Number}
 use Rattle.lines.specs.declared.Number.the-variants.{Good, Bad}
 use Rattle.lines.specs.declared.Step.{Step}
 use Rattle.lines.specs.Steps.{numberRead, stepOf, nodesOf}
 use Rattle.lines.proofs.Laws.{whole-number-none, whole-number-some, pair-inside}
-use Rattle.lines.proofs.Steps.{Spans, whole-spans, whole-when, whole-next, length-nodesOf}
+use Rattle.lines.proofs.Steps.{whole-spans, whole-when, whole-next, length-nodesOf}
 use Rattle.decklines.specs.declared.Held.{Held}
 use Rattle.decklines.specs.declared.LineRead.{LineRead}
 use Rattle.decklines.specs.declared.ExprRead.{ExprRead}
-use Rattle.decklines.specs.Held.{heldOf, lineOf, exprOf, InitsAfter, InitCame, propertyOf, PropertyAfter, PropertyCame, EquationsAfter, EquationCame, Room}
+use Rattle.decklines.specs.Held.{heldOf, lineOf, exprOf, InitCame, PropertyCame, EquationCame, Room}
 
 abbrev pub held : ℕ → ℕ → ℕ → ℕ → ℕ → ℕ → ℕ → ℕ → Held
 held d v i e u l c z = record { due = d; vars = v; initials = i; equations = e; used = u; last = l; covered = c; size = z }
@@ -214,21 +218,6 @@ module _ (o : Outcome Expr) (e : ExprRead) where
       go (Got y) i = (y, refl, ap (λ (k : ExprRead). k .nodes) i, ap (λ (k : ExprRead). k .vars) i, ap (λ (k : ExprRead). k .temporal) i)
       go (Refused a) i = let z : true ≡ false = ap (λ (k : ExprRead). not (k .fine)) (sym i) ∙ q in let w : _≡_ {A = ℕ} 0 1 = cc in absurd (omega arith)
 
--- ---- general: zeros
-
-drop-zeros : (n k : ℕ) → drop {A = ℕ} k (replicate n 0) ≡ replicate (n - k) 0
-drop-zeros zero k = let e : 0 ≡ 0 - k = omega arith in drop-nil k ∙ ap (λ (m : ℕ). replicate m 0) e
-drop-zeros (suc n) zero = let e : suc n ≡ suc n - 0 = omega arith in ap (λ (m : ℕ). replicate m 0) e
-drop-zeros (suc n) (suc k) = let e : n - k ≡ suc n - suc k = omega arith in drop-zeros n k ∙ ap (λ (m : ℕ). replicate m 0) e
-
--- A list put behind what a row holds.
-pub padded-append : (n : ℕ) (l vs : List ℕ) → splice (length l) vs (padded n l) ≡ padded n (l ++ vs)
-padded-append n l vs =
-    let less : n - length l - length vs ≡ n - length (l ++ vs) = omega (arith, length-append l vs) in
-    ap (λ (m : List ℕ). m ++ (vs ++ drop (length l + length vs) (padded n l))) (take-append-seam l (replicate (n - length l) 0))
-    ∙ ap (λ (m : List ℕ). l ++ (vs ++ m)) (drop-append-add l (replicate (n - length l) 0) (length vs) ∙ drop-zeros (n - length l) (length vs) ∙ ap (λ (k : ℕ). replicate k 0) less)
-    ∙ sym (append-assoc l vs (replicate (n - length (l ++ vs)) 0))
-
 -- ---- 04
 
 property-refused-as : (o : Outcome Sofar) (a : Answer) (r : LineRead) (l : List ℕ) → o ≡ Refused a → r ≡ lineOf (Refused a) → PropertyCame o r l
@@ -277,62 +266,18 @@ module _ (cs : List ℕ) (n : ℕ) (h : Held) (e : ExprRead) (s : Sofar) where
           property-is = f ∙ ap (λ (k : List ℕ). splice 0 k property) stored ∙ ap (splice 0 (code (y .0))) (j ∙ sym (padded-nil 128)) ∙ padded-append 128 [] (code (y .0));
         })
 
--- ---- general: sets
-
-union-assoc : (s t u : ℕ) → union (union s t) u ≡ union s (union t u)
-union-assoc s t u = ext (union (union s t) u) (union s (union t u)) (λ i. omega (arith, bit-union (union s t) u i, bit-union s t i, bit-union s (union t u) i, bit-union t u i))
-
-union-nothing : (s : ℕ) → union s 0 ≡ union 0 s
-union-nothing s = ext (union s 0) (union 0 s) (λ i. omega (arith, bit-union s 0 i, bit-union 0 s i))
-
 -- ---- one equation more
 
 module _ (q : Equation) where
   total-more : (qs : List Equation) → totalNodes (qs ++ (q ∷ [])) ≡ totalNodes qs + nodes (q .right)
   unfolding totalNodes
-  total-more [] = omega arith
-  total-more (x ∷ xs) = omega (arith, total-more xs)
+  total-more qs = omega (arith, total-append qs (q ∷ []))
 
   last-more : (qs : List Equation) → lastLeft (qs ++ (q ∷ [])) ≡ q .left
   unfolding lastLeft
   last-more [] = refl
   last-more (x ∷ []) = refl
   last-more (x ∷ y ∷ xs) = last-more (y ∷ xs)
-
-  left-more : (qs : List Equation) → leftSet (qs ++ (q ∷ [])) ≡ union (leftSet qs) (only (q .left))
-  unfolding leftSet
-  left-more [] = union-nothing (only (q .left))
-  left-more (x ∷ xs) = ap (union (only (x .left))) (left-more xs) ∙ sym (union-assoc (only (x .left)) (leftSet xs) (only (q .left)))
-
-  lefts-more : (qs : List Equation) → leftsOf (qs ++ (q ∷ [])) ≡ leftsOf qs ++ (q .left ∷ [])
-  lefts-more [] = refl
-  lefts-more (x ∷ xs) = ap (λ (l : List ℕ). x .left ∷ l) (lefts-more xs)
-
-  ends-more : (n : ℕ) (qs : List Equation) → endsOf n (qs ++ (q ∷ [])) ≡ endsOf n qs ++ ((n + totalNodes qs + nodes (q .right)) ∷ [])
-  unfolding endsOf totalNodes
-  ends-more n [] = let e : n + nodes (q .right) ≡ n + 0 + nodes (q .right) = omega arith in ap (λ (k : ℕ). k ∷ []) e
-  ends-more n (x ∷ xs) =
-      let e : n + nodes (x .right) + totalNodes xs + nodes (q .right) ≡ n + (nodes (x .right) + totalNodes xs) + nodes (q .right) = omega arith in
-      ap (λ (l : List ℕ). (n + nodes (x .right)) ∷ l) (ends-more (n + nodes (x .right)) xs ∙ ap (λ (k : ℕ). endsOf (n + nodes (x .right)) xs ++ (k ∷ [])) e)
-
-  codes-more : (qs : List Equation) → codes (qs ++ (q ∷ [])) ≡ codes qs ++ code (q .right)
-  unfolding codes
-  codes-more [] = append-nil (code (q .right))
-  codes-more (x ∷ xs) = ap (λ (l : List ℕ). code (x .right) ++ l) (codes-more xs) ∙ sym (append-assoc (code (x .right)) (codes xs) (code (q .right)))
-
-length-lefts : (qs : List Equation) → length (leftsOf qs) ≡ length qs
-length-lefts [] = refl
-length-lefts (x ∷ xs) = ap suc (length-lefts xs)
-
-length-ends : (n : ℕ) (qs : List Equation) → length (endsOf n qs) ≡ length qs
-unfolding endsOf
-length-ends n [] = refl
-length-ends n (x ∷ xs) = ap suc (length-ends (n + nodes (x .right)) xs)
-
-length-codes : (qs : List Equation) → length (codes qs) ≡ totalNodes qs
-unfolding codes totalNodes
-length-codes [] = refl
-length-codes (x ∷ xs) = omega (arith, length-append (code (x .right)) (codes xs), length-code (x .right), length-codes xs)
 
 -- ---- 03 judged
 
@@ -469,14 +414,6 @@ has-room line h e v c p q m w = record { few = omega arith; most = m; grows = om
 
 -- ---- 03 stored
 
-refuse-got : {A : Type 0} (b : Bool) (a : Answer) (o : Outcome A) (t : A) → refuse b a o ≡ Got t → o ≡ Got t
-refuse-got true a o t e = let z : Refused a ≡ Got t = e in cc
-refuse-got false a o t e = e
-
-afterwards-got : {A B : Type 0} (o : Outcome A) (f : A → Outcome B) (t : B) → afterwards o f ≡ Got t → (x : A) × (o ≡ Got x) × (f x ≡ Got t)
-afterwards-got (Got x) f t e = (x, refl, e)
-afterwards-got (Refused a) f t e = let z : Refused a ≡ Got t = e in let w : _≡_ {A = ℕ} 0 1 = cc in absurd (omega arith)
-
 with-got : (n : ℕ) (d : Deck) (q : Equation) (t : Sofar) → withEquation n d q ≡ Got t → t .deck .equations ≡ d .equations ++ (q ∷ [])
 unfolding withEquation
 with-got n d q t e =
@@ -566,10 +503,6 @@ module _ (line : List ℕ) (n : ℕ) (h : Held) (r : LineRead) (s : Sofar) where
                 subst (λ (y : List Equation). HoldsEquations y lefts″ ends″ nodes″ (length y)) (sym (w .2))
                 (record { lefts-are = pl ∙ more .lefts-are; ends-are = pe ∙ more .ends-are; nodes-are = pn ∙ more .nodes-are; count-is = refl });
           }
-
-not-false : (b : Bool) → not b ≡ false → b ≡ true
-not-false true e = refl
-not-false false e = let z : true ≡ false = e in let w : _≡_ {A = ℕ} 0 1 = cc in absurd (omega arith)
 
 pub the-room : (line : List ℕ) (h : Held) (r : LineRead) → (r .fine ≡ true → Room line h r) → not (r .fine) ≡ false → Room line h r
 the-room line h r f e = f (not-false (r .fine) e)

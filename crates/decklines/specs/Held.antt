@@ -10,7 +10,8 @@ use Rattle.logic.specs.Decks.{base, totalNodes}
 use Rattle.decks.specs.declared.Answer.the-variants.{Fine}
 use Rattle.decks.specs.Answers.{Outcome, Got, Refused}
 use Rattle.decks.specs.Stored.{HoldsEquations}
-use Rattle.frames.specs.Read.{Due, DueSet, DueInit, DueAny, DueEquation, DueCount, DueNone, Sofar, begun, lastLeft, leftSet}
+use Rattle.frames.specs.Read.{Due, DueSet, DueInit, DueAny, DueEquation, DueCount, DueNone, Sofar, begun, lastLeft}
+use Rattle.decks.specs.Readings.{leftSet}
 use Rattle.decklines.specs.declared.Held.{Held}
 use Rattle.decklines.specs.declared.LineRead.{LineRead}
 use Rattle.decklines.specs.declared.ExprRead.{ExprRead}

@@ -1,5 +1,5 @@
 -- Laws of the equations of a set, written and counted.
-use mathlib.Core.Path.{_≡_, refl, sym, ap, _∙_, subst}
+use mathlib.Core.Path.{_≡_, refl, sym, ap, _∙_}
 use mathlib.Core.Bool.{Bool, true, false}
 use mathlib.Core.List.{List, [], _∷_, _++_, append-assoc}
 use Prim.Native.Nat.{ℕ, suc, _+_, _-_, _*_, _%_, _^_, _<_, _≤_}
@@ -7,11 +7,11 @@ use native.Mathlib.Omega.{arith}
 use native.Mathlib.Decide.{decLt}
 use native.Mathlib.Nat.{add-zero}
 use lib.Pow.{pow-mono}
-use lib.ListN.{length, take, drop, getD, replicate, length-append, length-drop, take-append-drop}
+use lib.ListN.{length, take, drop, getD, replicate, length-append, length-drop}
 use lib.Seq.{getD-drop, drop-drop, drop-at, take-at}
 use borrow.Rule.Slice.PartMut.{midOf, putMid}
-use Rattle.lists.specs.Lists.{Each, keep, padded, splice}
-use Rattle.lists.proofs.Laws.{append-each, keep-pass, keep-fail, take-padded, part-rest}
+use Rattle.lists.specs.Lists.{keep, padded, splice, part}
+use Rattle.lists.proofs.Laws.{each-take, each-drop, keep-pass, keep-fail, take-padded, part-rest, part-next, part-done, length-part}
 use Rattle.sets.specs.Sets.{has, bit}
 use Rattle.sets.proofs.Laws.{true-has, bit-high}
 use Rattle.logic.specs.Expressions.{code}
@@ -23,28 +23,23 @@ use Rattle.decks.specs.Stored.{HoldsEquations, leftsOf, endsOf, codes}
 use Rattle.frames.specs.Hex.{pair}
 use Rattle.frames.specs.Written.{equationKind, nodePairs, frame, equationFrames}
 use Rattle.frames.proofs.ExprLaws.{length-node-pairs}
-use Rattle.writing.specs.Parts.{part, Nodes}
-use Rattle.writing.proofs.Laws.{Wrote, three-parts, nothing-wrote, wrote-part, wrote-length, all-wrote, part-next, part-none, length-part}
+use Rattle.writing.specs.Parts.{Nodes}
+use Rattle.writing.proofs.Laws.{Wrote, three-parts, nothing-wrote, wrote-part, wrote-length, all-wrote}
 use Rattle.equations.specs.Chosen.{chosenFrame, chosen}
 
 -- ---- general
 
-pub each-part : (P : ℕ → Type 0) (l : List ℕ) (from to : ℕ) → Each P l → Each P (part l from to)
-each-part P l from to ps =
-    let behind : Each P (drop from l) = append-each P (take from l) (drop from l) (subst (Each P) (sym (take-append-drop from l)) ps) .1 in
-    append-each P (part l from to) (drop (to - from) (drop from l)) (subst (Each P) (sym (take-append-drop (to - from) (drop from l))) behind) .0
-
-pub nodes-part : (l : List ℕ) (from to : ℕ) → Nodes l → Nodes (part l from to)
-nodes-part l from to ns = each-part (λ (n : ℕ). n < 266) l from to ns
+pub nodes-part : (l : List ℕ) (from to : ℕ) → Nodes l → Nodes (part from to l)
+nodes-part l from to ns = each-take (λ (n : ℕ). n < 266) (to - from) (drop from l) (each-drop (λ (n : ℕ). n < 266) from l ns)
 
 -- ---- one equation
 
 pub equation-frame : (left : ℕ) (nodes : List ℕ) (from to : ℕ) (out₀ x y z : List ℕ) → left < 256 → x ≡ splice 0 (pair 3) out₀ → y ≡ splice 0 (pair (left % 256)) (midOf 2 (length x - 2) x)
-    → z ≡ splice 0 (nodePairs (part nodes from to) ++ (10 ∷ [])) (midOf 4 (length (putMid 2 (length x - 2) x y) - 4) (putMid 2 (length x - 2) x y))
-    → putMid 4 (length (putMid 2 (length x - 2) x y) - 4) (putMid 2 (length x - 2) x y) z ≡ splice 0 (frame equationKind (pair left ++ nodePairs (part nodes from to))) out₀
+    → z ≡ splice 0 (nodePairs (part from to nodes) ++ (10 ∷ [])) (midOf 4 (length (putMid 2 (length x - 2) x y) - 4) (putMid 2 (length x - 2) x y))
+    → putMid 4 (length (putMid 2 (length x - 2) x y) - 4) (putMid 2 (length x - 2) x y) z ≡ splice 0 (frame equationKind (pair left ++ nodePairs (part from to nodes))) out₀
 equation-frame left nodes from to out₀ x y z h ex ey ez =
     let e : left % 256 ≡ left = omega arith in
-    three-parts 2 4 (pair 3) (pair left) (nodePairs (part nodes from to) ++ (10 ∷ [])) out₀ x y z ex refl (ey ∙ ap (λ (n : ℕ). splice 0 (pair n) (midOf 2 (length x - 2) x)) e) refl ez
+    three-parts 2 4 (pair 3) (pair left) (nodePairs (part from to nodes) ++ (10 ∷ [])) out₀ x y z ex refl (ey ∙ ap (λ (n : ℕ). splice 0 (pair n) (midOf 2 (length x - 2) x)) e) refl ez
 
 pub chosen-in : (vars left : ℕ) (ns : List ℕ) → has vars left ≡ true → chosenFrame vars left ns ≡ frame equationKind (pair left ++ nodePairs ns)
 unfolding chosenFrame
@@ -74,21 +69,21 @@ module _ (vars left from to : ℕ) (ns : List ℕ) (b : Bool) where
   pub chosen-left : vars < 2 ^ 64 → b ≡ has vars left → b ≡ true → left < 256
   chosen-left h e t = omega (arith, member-low vars left h (sym e ∙ t))
 
-  pub chosen-room : (room : ℕ) → b ≡ has vars left → b ≡ true → to ≤ length ns → length (chosenFrame vars left (part ns from to)) ≤ room → 2 * (to - from) + 5 ≤ room
-  chosen-room room e t h k = omega (arith, length-chosen vars left (part ns from to) (sym e ∙ t), length-part ns from to h)
+  pub chosen-room : (room : ℕ) → b ≡ has vars left → b ≡ true → to ≤ length ns → length (chosenFrame vars left (part from to ns)) ≤ room → 2 * (to - from) + 5 ≤ room
+  chosen-room room e t h k = omega (arith, length-chosen vars left (part from to ns) (sym e ∙ t), length-part ns from to h)
 
-  pub chosen-bytes : (r : ℕ) → b ≡ has vars left → b ≡ true → to ≤ length ns → r ≡ 2 * (to - from) + 5 → r ≡ length (chosenFrame vars left (part ns from to))
-  chosen-bytes r e t h k = omega (arith, length-chosen vars left (part ns from to) (sym e ∙ t), length-part ns from to h)
+  pub chosen-bytes : (r : ℕ) → b ≡ has vars left → b ≡ true → to ≤ length ns → r ≡ 2 * (to - from) + 5 → r ≡ length (chosenFrame vars left (part from to ns))
+  chosen-bytes r e t h k = omega (arith, length-chosen vars left (part from to ns) (sym e ∙ t), length-part ns from to h)
 
-  pub chosen-wrote : (out₀ out : List ℕ) → b ≡ has vars left → b ≡ true → out ≡ splice 0 (frame equationKind (pair left ++ nodePairs (part ns from to))) out₀
-      → out ≡ splice 0 (chosenFrame vars left (part ns from to)) out₀
-  chosen-wrote out₀ out e t o = o ∙ ap (λ (l : List ℕ). splice 0 l out₀) (sym (chosen-in vars left (part ns from to) (sym e ∙ t)))
+  pub chosen-wrote : (out₀ out : List ℕ) → b ≡ has vars left → b ≡ true → out ≡ splice 0 (frame equationKind (pair left ++ nodePairs (part from to ns))) out₀
+      → out ≡ splice 0 (chosenFrame vars left (part from to ns)) out₀
+  chosen-wrote out₀ out e t o = o ∙ ap (λ (l : List ℕ). splice 0 l out₀) (sym (chosen-in vars left (part from to ns) (sym e ∙ t)))
 
-  pub none-bytes : b ≡ has vars left → b ≡ false → 0 ≡ length (chosenFrame vars left (part ns from to))
-  none-bytes e t = ap (λ (l : List ℕ). length l) (sym (chosen-out vars left (part ns from to) (sym e ∙ t)))
+  pub none-bytes : b ≡ has vars left → b ≡ false → 0 ≡ length (chosenFrame vars left (part from to ns))
+  none-bytes e t = ap (λ (l : List ℕ). length l) (sym (chosen-out vars left (part from to ns) (sym e ∙ t)))
 
-  pub none-wrote : (out : List ℕ) → b ≡ has vars left → b ≡ false → out ≡ splice 0 (chosenFrame vars left (part ns from to)) out
-  none-wrote out e t = sym (ap (λ (l : List ℕ). splice 0 l out) (chosen-out vars left (part ns from to) (sym e ∙ t)))
+  pub none-wrote : (out : List ℕ) → b ≡ has vars left → b ≡ false → out ≡ splice 0 (chosenFrame vars left (part from to ns)) out
+  none-wrote out e t = sym (ap (λ (l : List ℕ). splice 0 l out) (chosen-out vars left (part from to ns) (sym e ∙ t)))
 
 -- ---- arrays that hold equations, equation by equation
 
@@ -122,7 +117,7 @@ pub record Next (rest : List Equation) (lefts ends nodes : List ℕ) (n i from l
   pub left-is : left ≡ equation .left
   pub to-is : to ≡ from + Expressions.nodes (equation .right)
   pub to-in : to ≤ length nodes
-  pub nodes-are : part nodes from to ≡ code (equation .right)
+  pub nodes-are : part from to nodes ≡ code (equation .right)
   pub behind : Rest others lefts ends nodes n (i + 1) to
 
 -- general:
@@ -229,17 +224,17 @@ module _ (vars : ℕ) (lefts ends nodes : List ℕ) (n : ℕ) where
       pub ends-within : to ≤ length nodes
       ends-within = at-next .to-in
 
-      chosen-frames : equationFrames (equationsOf vars (t qs h .0)) ≡ chosenFrame vars left (part nodes from to) ++ equationFrames (equationsOf vars (at-next .others))
+      chosen-frames : equationFrames (equationsOf vars (t qs h .0)) ≡ chosenFrame vars left (part from to nodes) ++ equationFrames (equationsOf vars (at-next .others))
       chosen-frames =
           let q : Equation = at-next .equation in
           ap (λ (rs : List Equation). equationFrames (equationsOf vars rs)) (at-next .rest-is)
           ∙ frames-next vars q (at-next .others)
           ∙ ap
           (λ (l : List ℕ). l ++ equationFrames (equationsOf vars (at-next .others)))
-          (sym (ap (λ (v : ℕ). chosenFrame vars v (part nodes from to)) (at-next .left-is) ∙ ap (λ (l : List ℕ). chosenFrame vars (q .left) l) (at-next .nodes-are)))
+          (sym (ap (λ (v : ℕ). chosenFrame vars v (part from to nodes)) (at-next .left-is) ∙ ap (λ (l : List ℕ). chosenFrame vars (q .left) l) (at-next .nodes-are)))
 
       -- The next frame is within what is free.
-      chosen-within : length (equationFrames (equationsOf vars qs)) ≤ length out₀ → length out ≡ length out₀ → used + length (chosenFrame vars left (part nodes from to)) ≤ length out
+      chosen-within : length (equationFrames (equationsOf vars qs)) ≤ length out₀ → length out ≡ length out₀ → used + length (chosenFrame vars left (part from to nodes)) ≤ length out
       chosen-within room same =
           omega (
             arith,
@@ -247,26 +242,26 @@ module _ (vars : ℕ) (lefts ends nodes : List ℕ) (n : ℕ) where
             same,
             wrote-length _ _ used out₀ out (t qs h .2),
             ap (λ (l : List ℕ). length l) chosen-frames,
-            length-append (chosenFrame vars left (part nodes from to)) (equationFrames (equationsOf vars (at-next .others))),
+            length-append (chosenFrame vars left (part from to nodes)) (equationFrames (equationsOf vars (at-next .others))),
           )
 
       pub chosen-free : length (equationFrames (equationsOf vars qs)) ≤ length out₀ → length out ≡ length out₀
-          → length (chosenFrame vars left (part nodes from to)) ≤ length (midOf used (length out - used) out)
+          → length (chosenFrame vars left (part from to nodes)) ≤ length (midOf used (length out - used) out)
       chosen-free room same = omega (arith, chosen-within room same, ap (λ (l : List ℕ). length l) (part-rest used out), length-drop used out)
 
       pub used-fits : (r : ℕ) → length (equationFrames (equationsOf vars qs)) ≤ length out₀ → length out ≡ length out₀ → length out₀ < 2 ^ 64
-          → r ≡ length (chosenFrame vars left (part nodes from to)) → used + r < 2 ^ 64
+          → r ≡ length (chosenFrame vars left (part from to nodes)) → used + r < 2 ^ 64
       used-fits r room same fits e = omega (arith, chosen-within room same)
 
   module _ (i from used left to : ℕ) (out₀ out : List ℕ) where
     pub equations-next : (r : ℕ) (ys : List ℕ) → EquationsTo vars lefts ends nodes n i from used out₀ out → i < n → left ≡ getD lefts i 0 → to ≡ getD ends i 0
-        → r ≡ length (chosenFrame vars left (part nodes from to)) → ys ≡ splice 0 (chosenFrame vars left (part nodes from to)) (midOf used (length out - used) out)
+        → r ≡ length (chosenFrame vars left (part from to nodes)) → ys ≡ splice 0 (chosenFrame vars left (part from to nodes)) (midOf used (length out - used) out)
         → EquationsTo vars lefts ends nodes n (i + 1) to (used + r) out₀ (putMid used (length out - used) out ys)
     equations-next r ys t k el et er ey qs h = (
       at-next i from used out₀ out qs h left to t k el et .others,
       at-next i from used out₀ out qs h left to t k el et .behind,
       rw er
-          (wrote-part _ _ used out₀ out (chosenFrame vars left (part nodes from to)) ys
+          (wrote-part _ _ used out₀ out (chosenFrame vars left (part from to nodes)) ys
           (rw (chosen-frames i from used out₀ out qs h left to t k el et) at (t qs h .2)) ey),
     )
 
@@ -308,21 +303,21 @@ length-chosen-frame vars left ns = go (has vars left) refl
 
 -- Of the first variables those of the set are counted before place i.
 abbrev pub CountTo : ℕ → List ℕ → ℕ → ℕ → ℕ → Type 0
-CountTo vars lefts count i n = n + length (keep (has vars) (part lefts i count)) ≡ length (keep (has vars) (part lefts 0 count))
+CountTo vars lefts count i n = n + length (keep (has vars) (part i count lefts)) ≡ length (keep (has vars) (part 0 count lefts))
 
 pub count-next : (vars : ℕ) (lefts : List ℕ) (count i n left r : ℕ) → CountTo vars lefts count i n → i < count → count ≤ length lefts → left ≡ getD lefts i 0 → r ≡ chosen vars left 1
     → CountTo vars lefts count (i + 1) (n + r)
 count-next vars lefts count i n left r t h k el er =
-    let one : length (keep (has vars) (part lefts i count)) ≡ r + length (keep (has vars) (part lefts (i + 1) count)) =
-    ap (λ (l : List ℕ). length (keep (has vars) l)) (part-next lefts i count h k)
-    ∙ length-keep-one vars (getD lefts i 0) (part lefts (i + 1) count)
-    ∙ ap (λ (m : ℕ). m + length (keep (has vars) (part lefts (i + 1) count))) (ap (λ (v : ℕ). chosen vars v 1) (sym el) ∙ sym er) in
+    let one : length (keep (has vars) (part i count lefts)) ≡ r + length (keep (has vars) (part (i + 1) count lefts)) =
+    ap (λ (l : List ℕ). length (keep (has vars) l)) (part-next lefts i count h (omega arith))
+    ∙ length-keep-one vars (getD lefts i 0) (part (i + 1) count lefts)
+    ∙ ap (λ (m : ℕ). m + length (keep (has vars) (part (i + 1) count lefts))) (ap (λ (v : ℕ). chosen vars v 1) (sym el) ∙ sym er) in
     omega (arith, t, one)
 
 pub count-done : (vars : ℕ) (lefts : List ℕ) (count i n : ℕ) → CountTo vars lefts count i n → count ≤ i → n ≡ length (keep (has vars) (take count lefts))
 unfolding keep
 count-done vars lefts count i n t h =
-    let none : length (keep (has vars) (part lefts i count)) ≡ 0 = ap (λ (l : List ℕ). length (keep (has vars) l)) (part-none lefts i count h) in
+    let none : length (keep (has vars) (part i count lefts)) ≡ 0 = ap (λ (l : List ℕ). length (keep (has vars) l)) (part-done lefts i count h) in
     let all : count - 0 ≡ count = omega arith in
     omega (arith, t, none) ∙ ap (λ (k : ℕ). length (keep (has vars) (take k lefts))) all
 

@@ -3,20 +3,20 @@ ghost use mathlib.Core.Path.{_≡_};
 ghost use mathlib.Core.List.{List, _++_};
 ghost use Prim.Native.Nat.{ℕ, _+_, _-_, _*_, _<_, _≤_};
 ghost use lib.ListN.{length, take, getD};
-ghost use Rattle.lists.specs.Lists.{splice, keep};
+ghost use Rattle.lists.specs.Lists.{splice, keep, part};
 ghost use Rattle.sets.specs.Sets.{has};
 ghost use Rattle.logic.specs.Decks.{Equation, base};
 ghost use Rattle.logic.specs.Pieces.{equationsOf};
 ghost use Rattle.decks.specs.Stored.{HoldsEquations};
 ghost use Rattle.frames.specs.Hex.{pair};
 ghost use Rattle.frames.specs.Written.{equationKind, nodePairs, frame, equationFrames};
-ghost use Rattle.writing.specs.Parts.{part, Nodes};
+ghost use Rattle.writing.specs.Parts.{Nodes};
 ghost use Rattle.equations.specs.Chosen.{chosenFrame, chosen};
 
 // The frame of an equation, and its length.
 pub fn put_equation(out: &mut [u8], left: usize, nodes: &[u16], from: usize, to: usize) -> usize
-    requires { ⌜ (left < 256) × (from ≤ to) × (to ≤ length (now nodes)) × (2 * (to - from) + 5 ≤ length (now out)) × Nodes (part (now nodes) from to) ⌝ }
-    ensures { λ r. ⌜ (r ≡ 2 * (to - from) + 5) × (now (out .exit) ≡ splice 0 (frame equationKind (pair left ++ nodePairs (part (now (nodes .entry)) from to))) (now (out .entry))) ⌝ }
+    requires { ⌜ (left < 256) × (from ≤ to) × (to ≤ length (now nodes)) × (2 * (to - from) + 5 ≤ length (now out)) × Nodes (part from to (now nodes)) ⌝ }
+    ensures { λ r. ⌜ (r ≡ 2 * (to - from) + 5) × (now (out .exit) ≡ splice 0 (frame equationKind (pair left ++ nodePairs (part from to (now (nodes .entry))))) (now (out .entry))) ⌝ }
 {
     writing::put_byte(out, 3);
     writing::put_byte(&mut out[2..], (left % 256) as u8);
@@ -33,8 +33,8 @@ pub fn put_chosen(
     from: usize,
     to: usize,
 ) -> usize
-    requires { ⌜ (from ≤ to) × (to ≤ length (now nodes)) × Nodes (part (now nodes) from to) × (length (chosenFrame vars left (part (now nodes) from to)) ≤ length (now out)) ⌝ }
-    ensures { λ r. ⌜ (r ≡ length (chosenFrame vars left (part (now (nodes .entry)) from to))) × (now (out .exit) ≡ splice 0 (chosenFrame vars left (part (now (nodes .entry)) from to)) (now (out .entry))) ⌝ }
+    requires { ⌜ (from ≤ to) × (to ≤ length (now nodes)) × Nodes (part from to (now nodes)) × (length (chosenFrame vars left (part from to (now nodes))) ≤ length (now out)) ⌝ }
+    ensures { λ r. ⌜ (r ≡ length (chosenFrame vars left (part from to (now (nodes .entry))))) × (now (out .exit) ≡ splice 0 (chosenFrame vars left (part from to (now (nodes .entry)))) (now (out .entry))) ⌝ }
 {
     if sets::member(vars, left) {
         return put_equation(out, left, nodes, from, to);

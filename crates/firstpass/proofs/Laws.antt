@@ -1,126 +1,46 @@
 -- Laws of one card and of the first pass.
-use mathlib.Core.Path.{_≡_, refl, sym, ap, _∙_, subst}
-use mathlib.Core.Logic.{inl, inr, by-cases}
+use mathlib.Core.Path.{_≡_, refl, sym, ap, _∙_}
+use mathlib.Core.Logic.{by-cases}
 use mathlib.Core.Bool.{Bool, true, false, not, _&&_, _||_}
 use mathlib.Core.List.{List, [], _∷_, _++_, append-nil}
 use Prim.Native.Nat.{ℕ, zero, suc, _+_, _-_, _<_, _≤_, min}
 use native.Mathlib.Omega.{arith}
-use native.Mathlib.Numerals.{add-one, unary-clauses}
-use native.Mathlib.Decide.{ℕ-discrete, decLe}
-use lib.Dec.{ltb, leb, eqb}
+use native.Mathlib.Numerals.{add-one}
+use native.Mathlib.Decide.{ℕ-discrete, decLe, decLt}
+use lib.Dec.{ltb, eqb}
 use lib.ListN.{length, take, drop, getD, replicate, length-drop, length-take, drop-of-length-le, List·getD-eq-default}
-use lib.Seq.{take-all, drop-cons, take-at, drop-at, drop-drop}
+use lib.Seq.{take-all, drop-cons}
 use borrow.Author.Tests.{lt-leb, le-leb, lt-ltb, le-ltb, eq-eqb, ne-eqb}
-use Rattle.lists.specs.Lists.{_among_, ended, unended}
-use Rattle.lists.proofs.Laws.{among-dec, first-line, ended-next, unended-next, ended-none, unended-whole}
+use Rattle.lists.specs.Lists.{ended, unended}
+use Rattle.lists.proofs.Laws.{getD-any, take-min, drop-take, take-filled}
 use Rattle.decks.specs.declared.Answer.{Answer}
 use Rattle.decks.specs.declared.Answer.the-variants.{Fine, BadByte, TooWide, BadStart, BadNumber, NoneOpen, TooManyCards}
 use Rattle.decks.specs.Answers.{Outcome, Got, Refused, refuse}
 use Rattle.decks.specs.Readings.{walk}
-use Rattle.cards.specs.Card.{cardsOf, blank, cardColumns, fieldStart, fieldEnd, fieldColumns, continuations, column, columns, every, isBlank, isDigit, printable, isComment, numbered, Kind, Comment, Empty, Opening, Continuing, kindOf, closes, Open, Shut, Continued, opened, cardInForm, inForm}
+use Rattle.decks.proofs.Outcomes.{walk-got, walk-refused}
+use Rattle.ends.specs.Ends.{lineLength}
+use Rattle.ends.proofs.Laws.{ended-at, unended-at, ended-last, unended-last}
+use Rattle.cards.specs.Card.{lastCard, cardsOf, blank, cardColumns, fieldStart, fieldEnd, fieldColumns, continuations, column, columns, every, isBlank, isDigit, printable, isComment, numbered, Kind, Comment, Empty, Opening, Continuing, kindOf, closes, Open, Shut, Continued, opened, cardInForm, inForm}
 use Rattle.firstpass.specs.declared.CardKind.{CardKind}
 use Rattle.firstpass.specs.declared.CardKind.the-variants.{Comment as CommentCard, Empty as EmptyCard, Opening as OpeningCard, Continuing as ContinuingCard}
 use Rattle.firstpass.specs.declared.Carded.{Carded}
 use Rattle.firstpass.specs.declared.Carded.the-variants.{Next, Fault}
-use Rattle.firstpass.specs.Passed.{lineLength, between, free, kindIs, openOf, outcomeOf, passed}
-
--- ---- general: parts of lists
-
-module _ {A : Type 0} where
-  -- A place of the list holds the same, whatever stands for the places behind its end.
-  pub getD-any : (l : List A) (i : ℕ) (d e : A) → i < length l → getD l i d ≡ getD l i e
-  getD-any [] i d e h = absurd (omega arith)
-  getD-any (x ∷ xs) zero d e h = refl
-  getD-any (x ∷ xs) (suc i) d e h = getD-any xs i d e (omega arith)
-
-  pub take-min : (n : ℕ) (l : List A) → take (min n (length l)) l ≡ take n l
-  take-min n l =
-      by-cases
-      (decLe n (length l))
-      (λ h. let e : min n (length l) ≡ n = omega arith in ap (λ (k : ℕ). take k l) e)
-      (λ h. take-all (min n (length l)) l (omega arith) ∙ sym (take-all n l (omega arith)))
-
-  pub drop-take : (i n : ℕ) (l : List A) → drop i (take (i + n) l) ≡ take n (drop i l)
-  drop-take zero n l = let e : 0 + n ≡ n = omega arith in ap (λ (k : ℕ). take k l) e
-  drop-take (suc i) n [] = ap (drop (suc i)) (take-all (suc i + n) [] (omega arith)) ∙ sym (take-all n [] (omega arith))
-  drop-take (suc i) n (x ∷ xs) = let e : suc i + n ≡ suc (i + n) = omega arith in ap (λ (k : ℕ). drop (suc i) (take k (x ∷ xs))) e ∙ drop-take i n xs
-
-  take-replicate : (n k : ℕ) (x : A) → n ≤ k → take n (replicate k x) ≡ replicate n x
-  take-replicate zero k x h = refl
-  take-replicate (suc n) zero x h = absurd (omega arith)
-  take-replicate (suc n) (suc k) x h = ap (λ (l : List A). x ∷ l) (take-replicate n k x (omega arith))
-
-  -- The first n places of a list that is filled up far enough.
-  pub take-filled : (n k : ℕ) (l : List A) (x : A) → n ≤ k → take n (l ++ replicate k x) ≡ take n l ++ replicate (n - length l) x
-  take-filled zero k l x h = let e : 0 - length l ≡ 0 = omega arith in sym (ap (λ (m : ℕ). replicate m x) e)
-  take-filled (suc n) k [] x h = simp unary-clauses (take-replicate (suc n) k x h)
-  take-filled (suc n) k (y ∷ ys) x h = simp unary-clauses (ap (λ (m : List A). y ∷ m) (take-filled n k ys x (omega arith)))
+use Rattle.firstpass.specs.Passed.{between, free, kindIs, openOf, outcomeOf, passed}
 
 -- ---- where a card ends
 
-line-at-end : (b : ℕ) (bs : List ℕ) → b ≡ 10 → lineLength (b ∷ bs) ≡ 0
-unfolding lineLength
-line-at-end b bs e = simp (eq-eqb b 10 e, lineLength)
-
-line-on : (b : ℕ) (bs : List ℕ) → (b ≡ 10 → ⊥) → lineLength (b ∷ bs) ≡ suc (lineLength bs)
-unfolding lineLength
-line-on b bs n = simp (ne-eqb b 10 n, lineLength)
-
-module _ (text : List ℕ) (at i : ℕ) where
-  pub end-met : i < length text → at + lineLength (drop at text) ≡ i + lineLength (drop i text) → getD text i 0 ≡ 10 → i ≡ at + lineLength (drop at text)
-  end-met h e q = omega (arith, e, ap lineLength (drop-cons text i 0 h) ∙ line-at-end (getD text i 0) (drop (suc i) text) q)
-
-  pub end-on : i < length text → at + lineLength (drop at text) ≡ i + lineLength (drop i text) → (getD text i 0 ≡ 10 → ⊥) → at + lineLength (drop at text) ≡ i + 1 + lineLength (drop (i + 1) text)
-  end-on h e n =
-      omega (
-        arith,
-        e,
-        ap lineLength (drop-cons text i 0 h) ∙ line-on (getD text i 0) (drop (suc i) text) n ∙ ap (λ (k : ℕ). suc (lineLength (drop k text))) (sym (add-one i)),
-      )
-
-  pub end-last : length text ≤ i → at + lineLength (drop at text) ≡ i + lineLength (drop i text) → i ≡ at + lineLength (drop at text)
-  unfolding lineLength
-  end-last h e = omega (arith, e, ap lineLength (drop-of-length-le text {i = i} h))
-
-line-before : (line rest : List ℕ) → (10 among line → ⊥) → lineLength (line ++ 10 ∷ rest) ≡ length line
-line-before [] rest n = line-at-end 10 rest refl
-line-before (b ∷ bs) rest n = line-on b (bs ++ 10 ∷ rest) (λ e. n (inl (sym e))) ∙ ap suc (line-before bs rest (λ m. n (inr m)))
-
-line-whole : (t : List ℕ) → (10 among t → ⊥) → lineLength t ≡ length t
-unfolding lineLength
-line-whole [] n = refl
-line-whole (b ∷ bs) n = line-on b bs (λ e. n (inl (sym e))) ∙ ap suc (line-whole bs (λ m. n (inr m)))
-
-abbrev Carded-off : List ℕ → Type 0
-Carded-off t = cardsOf t ≡ take (lineLength t) t ∷ cardsOf (drop (suc (lineLength t)) t)
-
-ended-card : (line rest : List ℕ) → (10 among line → ⊥) → Carded-off (line ++ 10 ∷ rest)
-ended-card line rest n =
-    let t : List ℕ = line ++ 10 ∷ rest in
-    let off : drop (suc (length line)) t ≡ rest = ap (λ (k : ℕ). drop k t) (sym (add-one (length line))) ∙ sym (drop-drop 1 (length line) t) ∙ ap (drop 1) (drop-at line (10 ∷ rest) (length line) refl) in
-    rw (line-before line rest n, off, take-at line (10 ∷ rest) (length line) refl, ended-next line rest n, unended-next line rest) refl
-
-last-card : (t : List ℕ) → 0 < length t → (10 among t → ⊥) → Carded-off t
-unfolding ended unended
-last-card [] h n = absurd (omega arith)
-last-card (b ∷ bs) h n =
-    let t : List ℕ = b ∷ bs in
-    rw (line-whole t n, ended-none t n, unended-whole t n, take-all (length t) t (omega arith), drop-of-length-le t {i = suc (length t)} (omega arith)) refl
-
--- The first card of a text that has one, and behind its end the others.
-pub first-card : (t : List ℕ) → 0 < length t → cardsOf t ≡ take (lineLength t) t ∷ cardsOf (drop (suc (lineLength t)) t)
-first-card t h =
-    by-cases (among-dec 10 t) (λ m. let f = first-line t m in subst Carded-off (sym (f .3)) (ended-card (f .0) (f .1) (f .2))) (last-card t h)
-
 -- The cards from a place on: the one that begins there, then those behind its end.
 pub cards-next : (text : List ℕ) (at end : ℕ) → at < length text → end ≡ at + lineLength (drop at text) → cardsOf (drop at text) ≡ take (end - at) (drop at text) ∷ cardsOf (drop (end + 1) text)
-cards-next text at end h e =
-    let t : List ℕ = drop at text in
-    let long : lineLength t ≡ end - at = omega arith in
-    let next : at + suc (lineLength t) ≡ end + 1 = omega arith in
-    first-card t (omega (arith, length-drop at text))
-    ∙ ap (λ (k : ℕ). take k t ∷ cardsOf (drop (suc (lineLength t)) t)) long
-    ∙ ap (λ (l : List ℕ). take (end - at) t ∷ cardsOf l) (drop-drop (suc (lineLength t)) at text ∙ ap (λ (k : ℕ). drop k text) next)
+unfolding ended unended
+cards-next text at end h e = by-cases (decLt end (length text)) ended-here (λ n. last-here (omega arith))
+  where
+    ended-here : end < length text → cardsOf (drop at text) ≡ take (end - at) (drop at text) ∷ cardsOf (drop (end + 1) text)
+    ended-here l = rw (ended-at text at end e l (omega arith), unended-at text at end e l (omega arith)) refl
+
+    last-here : length text ≤ end → cardsOf (drop at text) ≡ take (end - at) (drop at text) ∷ cardsOf (drop (end + 1) text)
+    last-here l =
+        rw (ended-last text at end e l (omega arith), unended-last text at end e l (omega arith), take-all (end - at) (drop at text) (omega (arith, length-drop at text)), drop-of-length-le text {i = end + 1} (omega arith))
+        (ap lastCard (drop-cons text at 0 h) ∙ ap (λ (t : List ℕ). t ∷ []) (sym (drop-cons text at 0 h)))
 
 -- ---- every character of a part
 
@@ -408,17 +328,6 @@ module _ (n : ℕ) (card : List ℕ) (o : Open) (p : Bool) where
             cardInForm,
           ))
 
--- ---- general: one by one
-
-module _ {A S : Type 0} (f : ℕ → A → S → Outcome S) (n : ℕ) (x : A) (xs : List A) (s : S) where
-  pub walk-refused : (a : Answer) → f n x s ≡ Refused a → walk f n (x ∷ xs) s ≡ Refused a
-  unfolding walk
-  walk-refused a e = simp (e, walk)
-
-  pub walk-on : (t : S) → f n x s ≡ Got t → walk f n (x ∷ xs) s ≡ walk f (suc n) xs t
-  unfolding walk
-  walk-on t e = simp (e, walk)
-
 -- ---- the first pass
 
 module _ (text : List ℕ) (at n hand end : ℕ) where
@@ -439,7 +348,7 @@ module _ (text : List ℕ) (at n hand end : ℕ) where
     pub pass-on : (k : ℕ) → at < length text → end ≡ at + lineLength (drop at text) → Passing → Judged → r ≡ Next k → inForm (cardsOf text) ≡ walk cardInForm (n + 1) (cardsOf (drop (end + 1) text)) (openOf k)
     pass-on k h e i f q =
         at-card h e i
-        ∙ walk-on cardInForm n (take (end - at) (drop at text)) (cardsOf (drop (end + 1) text)) (openOf hand) (openOf k) (sym f ∙ ap outcomeOf q)
+        ∙ walk-got cardInForm n (take (end - at) (drop at text)) (cardsOf (drop (end + 1) text)) (openOf hand) (openOf k) (sym f ∙ ap outcomeOf q)
         ∙ ap (λ (m : ℕ). walk cardInForm m (cardsOf (drop (end + 1) text)) (openOf k)) (sym (add-one n))
 
 module _ (text : List ℕ) (at n hand : ℕ) where
@@ -491,7 +400,7 @@ told-walk n [] o = tt
 told-walk n (c ∷ cs) o = go (cardInForm n c o) refl (told-card n c o) (told-walk (suc n) cs)
   where
     go : (r : Outcome Open) → cardInForm n c o ≡ r → Told r → ((p : Open) → Told (walk cardInForm (suc n) cs p)) → Told (walk cardInForm n (c ∷ cs) o)
-    go (Got p) e t f = rw (walk-on cardInForm n c cs o p e) (f p)
+    go (Got p) e t f = rw (walk-got cardInForm n c cs o p e) (f p)
     go (Refused a) e t f = rw (walk-refused cardInForm n c cs o a e) t
 
 module _ (cards : List (List ℕ)) where

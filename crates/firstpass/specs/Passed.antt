@@ -1,8 +1,7 @@
 -- What the functions over cards answer, in the words of the card form.
 use mathlib.Core.Bool.{Bool, true, false, _&&_}
-use mathlib.Core.List.{List, [], _∷_}
 use Prim.Native.Nat.{ℕ, zero, suc}
-use lib.Dec.{leb, eqb}
+use lib.Dec.{leb}
 use Rattle.decks.specs.declared.Answer.{Answer}
 use Rattle.decks.specs.declared.Answer.the-variants.{Fine}
 use Rattle.decks.specs.Answers.{Outcome, Got, Refused}
@@ -11,11 +10,6 @@ use Rattle.firstpass.specs.declared.CardKind.{CardKind}
 use Rattle.firstpass.specs.declared.CardKind.the-variants.{Comment as CommentCard, Empty as EmptyCard, Opening as OpeningCard, Continuing as ContinuingCard}
 use Rattle.firstpass.specs.declared.Carded.{Carded}
 use Rattle.firstpass.specs.declared.Carded.the-variants.{Next, Fault}
-
--- The bytes that stand before the first byte 10: all, where there is none.
-unfoldable pub lineLength : List ℕ → ℕ
-lineLength [] = 0
-lineLength (b ∷ bs) = elim (eqb b 10) [ true ↦ 0 | false ↦ suc (lineLength bs) ]
 
 -- A byte from low to high.
 abbrev pub between : ℕ → ℕ → ℕ → Bool

@@ -1,11 +1,12 @@
-// One card: where it ends, its columns, its kind and its field; and the first pass, card by card, the faults 2 to 7.
+// One card: its columns, its kind and its field; and the first pass, card by card, the faults 2 to 7.
 ghost use mathlib.Core.Path.{_≡_};
 ghost use mathlib.Core.Bool.{not, _&&_};
 ghost use Prim.Native.Nat.{_+_, _-_, _<_, _≤_, min};
-ghost use lib.ListN.{length, take, drop};
+ghost use lib.ListN.{take, drop};
 ghost use Rattle.cards.specs.Card.{cardsOf, fieldStart, fieldEnd, column, columns, every, isBlank, printable, isComment, Continuing, numbered, kindOf, closes, opened, cardInForm, inForm};
-ghost use Rattle.firstpass.specs.Passed.{lineLength, between, free, kindIs, openOf, outcomeOf, passed};
+ghost use Rattle.firstpass.specs.Passed.{between, free, kindIs, openOf, outcomeOf, passed};
 use decks::Answer;
+use ends::line_end;
 
 // Document 01's columns: of a card, where the statement field begins and ends; and the continuations that a statement may have.
 pub const COLUMNS: usize = 80;
@@ -15,9 +16,6 @@ pub const FIELD_START: usize = 7;
 pub const FIELD_END: usize = 72;
 
 pub const CONTINUATIONS: u64 = 19;
-
-// Byte 10 ends a card.
-const CARD_END: u8 = 10;
 
 // The kinds of card.
 pub enum CardKind {
@@ -31,21 +29,6 @@ pub enum CardKind {
 pub enum Carded {
     Next(u64),
     Fault(Answer),
-}
-
-// Where the card that begins at a place of the text ends: at its byte 10, or at the end of the text.
-pub fn card_end(text: &[u8], at: usize) -> usize
-    requires { ⌜ at ≤ length (now text) ⌝ }
-    ensures { λ r. ⌜ (r ≡ at + lineLength (drop at (now (text .entry)))) × (at ≤ r) × (r ≤ length (now (text .entry))) ⌝ }
-{
-    let mut i = at;
-    while i < text.len() {
-        if text[i] == CARD_END {
-            return i;
-        }
-        i += 1;
-    }
-    i
 }
 
 // Every byte is one of low to high.
@@ -250,7 +233,7 @@ pub fn first_pass(text: &[u8]) -> Answer
     let mut n = 1;
     let mut hand = 0;
     while at < text.len() {
-        let end = card_end(text, at);
+        let end = line_end(text, at);
         match card_fault(&text[at..end], n, hand) {
             Carded::Fault(a) => {
                 return a;

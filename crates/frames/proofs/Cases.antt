@@ -15,7 +15,8 @@ use Rattle.decks.specs.declared.Answer.the-variants.{Outside, Temporal, TooDeep
 use Rattle.decks.specs.Answers.{Outcome, Got, Refused}
 use Rattle.frames.specs.Hex.{hexDigit, pairs, digitOf, byteOf, numberFrom}
 use Rattle.frames.specs.Written.{codeByte, nodePairs, stateFrames, equationFrames, deckFrames}
-use Rattle.frames.specs.Read.{signOf, readExpr, wholeExpr, wholeNumber, kindOf, walk, setLine, initLine, lastLeft, withEquation, equationLine, propertyLine, countLine, frameLine, deckLine, leftSet, complete, deckEnd, readDeck, sizesLine, stateLine, claimLine, claimEnd, readClaim}
+use Rattle.frames.specs.Read.{signOf, readExpr, wholeExpr, wholeNumber, kindOf, setLine, initLine, lastLeft, withEquation, equationLine, propertyLine, countLine, frameLine, deckLine, deckEnd, readDeck, sizesLine, stateLine, claimLine, claimEnd, readClaim}
+use Rattle.decks.specs.Readings.{walk, leftSet, complete}
 
 firstText : List ℕ
 unfolding joined bytes

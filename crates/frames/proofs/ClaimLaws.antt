@@ -19,9 +19,11 @@ use Rattle.decks.specs.declared.Answer.the-variants.{BadFrame}
 use Rattle.decks.specs.Answers.{Outcome, Got, refuse}
 use Rattle.frames.specs.Hex.{pairs}
 use Rattle.frames.specs.Written.{setBytes, claimKind, stateKind, claimCountKind, frame, stateFrames, claimFrames}
-use Rattle.frames.specs.Read.{ClaimSofar, ClaimDue, StatesDue, ClaimWhole, wholeNumber, kindOf, walk, countLine, sizesLine, stateLine, claimLine, claimEnd, readClaim}
+use Rattle.frames.specs.Read.{ClaimSofar, ClaimDue, StatesDue, ClaimWhole, wholeNumber, kindOf, countLine, sizesLine, stateLine, claimLine, claimEnd, readClaim}
+use Rattle.decks.specs.Readings.{walk}
 use Rattle.frames.proofs.HexLaws.{pairs-from-zero, pairs-four}
-use Rattle.frames.proofs.LineLaws.{Given, got-given, refuse-given, refuse-not-given, afterwards-given, walk-got, walk-keeps, line, kind-line, line-kind, frame-joined, stateLines, state-frames-joined, line-free, state-lines-free, whole-number-pairs, whole-number-got, count-line-pairs, count-line-given}
+use Rattle.frames.proofs.LineLaws.{line, kind-line, line-kind, frame-joined, stateLines, state-frames-joined, line-free, state-lines-free, whole-number-pairs, whole-number-got, count-line-pairs, count-line-given}
+use Rattle.decks.proofs.Outcomes.{Given, got-given, refuse-given, refuse-not-given, afterwards-given, walk-got, walk-keeps}
 
 -- ---- the lines of a claim
 
@@ -242,4 +244,4 @@ module _ (vars : ℕ) where
       refuse-given (Returns t) (ltb (base .text) (length t)) _ _ (λ short.
       afterwards-given (Returns t) (walk (claimLine vars) 1 (ended t) ClaimDue) _ (λ s e.
       end-given t (unended t) s (joined-ended t) (
-      got-given (Kept (ended t)) (walk (claimLine vars) 1 (ended t) ClaimDue) s (walk-keeps (claimLine vars) Kept line-kept (ended t) [] ClaimDue refl) e)))
+      got-given (Kept (ended t)) (walk (claimLine vars) 1 (ended t) ClaimDue) s (walk-keeps (claimLine vars) 1 Kept (λ past l u k. let one : 1 + length past ≡ suc (length past) = omega arith in rw one (line-kept past l u k)) (ended t) [] ClaimDue refl) e)))

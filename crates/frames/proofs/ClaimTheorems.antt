@@ -14,7 +14,7 @@ use Rattle.decks.specs.declared.Answer.the-variants.{TooLong}
 use Rattle.decks.specs.Answers.{Got, Refused}
 use Rattle.frames.specs.Written.{claimFrames}
 use Rattle.frames.specs.Read.{claimEnd, readClaim}
-use Rattle.frames.proofs.LineLaws.{got-given}
+use Rattle.decks.proofs.Outcomes.{got-given}
 use Rattle.frames.proofs.SizeLaws.{claim-within-text}
 use Rattle.frames.proofs.ClaimLaws.{claimLines, claim-frames-joined, claim-lines-free, claim-walk, Returns, claim-given}
 

@@ -17,11 +17,14 @@ use Rattle.logic.specs.Decks.{Equation, Deck, Accepted, Allowed, Rising, base, 
 use Rattle.decks.specs.Answers.{Outcome, Got, Refused}
 use Rattle.frames.specs.Hex.{pairs, byteOf}
 use Rattle.frames.specs.Written.{setBytes, setKind, initKind, equationKind, propertyKind, countKind, nodePairs, deckFrames}
-use Rattle.frames.specs.Read.{Due, DueSet, DueInit, DueAny, DueEquation, DueCount, DueNone, Sofar, begun, wholeNumber, wholeExpr, kindOf, walk, setLine, initLine, lastLeft, withEquation, equationLine, propertyLine, countLine, permits, frameLine, deckLine, complete, deckEnd, readDeck}
+use Rattle.frames.specs.Read.{Due, DueSet, DueInit, DueAny, DueEquation, DueCount, DueNone, Sofar, begun, wholeNumber, wholeExpr, kindOf, setLine, initLine, lastLeft, withEquation, equationLine, propertyLine, countLine, permits, frameLine, deckLine, deckEnd, readDeck}
+use Rattle.decks.specs.Readings.{walk, complete}
 use Rattle.frames.proofs.HexLaws.{pair-byte}
-use Rattle.frames.proofs.LineLaws.{Given, got-given, refuse-given, refuse-not-given, afterwards-given, walk-keeps, line, line-kind, stateLines, whole-number-got, whole-expr-got, count-line-given}
-use Rattle.frames.proofs.LeftLaws.{all-complete}
-use Rattle.frames.proofs.DeckLaws.{temporal-plain, total-append, rising-snoc, equationContent, equationLines, headLines, propertyOf, countContent, countOf, deckLines, deck-frames-joined, length-head-lines}
+use Rattle.frames.proofs.LineLaws.{line, line-kind, stateLines, whole-number-got, whole-expr-got, count-line-given}
+use Rattle.decks.proofs.Outcomes.{Given, got-given, refuse-given, refuse-not-given, afterwards-given, walk-keeps}
+use Rattle.decks.proofs.Complete.{all-complete}
+use Rattle.frames.proofs.DeckLaws.{rising-snoc, equationContent, equationLines, headLines, propertyOf, countContent, countOf, deckLines, deck-frames-joined, length-head-lines}
+use Rattle.logic.proofs.Rights.{temporal-plain, total-append}
 use Rattle.frames.proofs.DeckWritten.{sofar}
 
 -- What holds of the deck in hand from 01 on.
@@ -361,4 +364,4 @@ deck-given t =
     refuse-given (Returns t) (ltb (base .text) (length t)) _ _ (λ short.
     afterwards-given (Returns t) (walk deckLine 1 (ended t) begun) _ (λ s e.
     end-given t (unended t) (s .due) (s .deck) (joined-ended t) (
-    got-given (Kept (ended t)) (walk deckLine 1 (ended t) begun) s (walk-keeps deckLine Kept line-kept (ended t) [] begun (refl, tt)) e)))
+    got-given (Kept (ended t)) (walk deckLine 1 (ended t) begun) s (walk-keeps deckLine 1 Kept (λ past l u k. let one : 1 + length past ≡ suc (length past) = omega arith in rw one (line-kept past l u k)) (ended t) [] begun (refl, tt)) e)))

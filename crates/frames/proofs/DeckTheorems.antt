@@ -12,8 +12,8 @@ use Rattle.decks.specs.declared.Answer.the-variants.{TooLong}
 use Rattle.decks.specs.Answers.{Got, Refused}
 use Rattle.frames.specs.Written.{deckFrames}
 use Rattle.frames.specs.Read.{deckEnd, readDeck}
-use Rattle.frames.proofs.LineLaws.{got-given}
-use Rattle.frames.proofs.LeftLaws.{complete-all}
+use Rattle.decks.proofs.Outcomes.{got-given}
+use Rattle.decks.proofs.Complete.{complete-all}
 use Rattle.frames.proofs.SizeLaws.{deck-within-text}
 use Rattle.frames.proofs.DeckLaws.{deckLines, deck-frames-joined, deck-lines-free}
 use Rattle.frames.proofs.DeckWritten.{deck-walk}

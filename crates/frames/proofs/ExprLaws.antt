@@ -11,11 +11,12 @@ use lib.ListN.{length, getD}
 use lib.Pow.{pow-pos, pow-lt}
 use Rattle.lists.specs.Lists.{Each}
 use Rattle.sets.proofs.Laws.{union-lt}
-use Rattle.logic.specs.Expressions.{Expr, Const, Var, One, Two, Op1, Op2, Not, Next, Future, Always, And, Or, Until, Weak, levels, written, constNode, node1, node2, code}
-use Rattle.logic.proofs.Codes.{Below, levels-some}
+use Rattle.logic.specs.Expressions.{Expr, Const, Var, One, Two, Op1, Op2, Not, Next, Future, Always, And, Or, Until, Weak, levels, written, constNode, node1, node2, code, Below}
+use Rattle.logic.proofs.Codes.{levels-some}
 use Rattle.frames.specs.Hex.{pair, byteOf}
 use Rattle.frames.specs.Written.{codeByte, nodePairs}
-use Rattle.frames.specs.Read.{Sign, Leaf, Before, Between, NoSign, signs, signOf, Reading, Whole, Wrong, Deep, onward, levelled, begins, readExpr}
+use Rattle.frames.specs.Read.{Sign, Leaf, Before, Between, NoSign, signs, signOf, levelled, begins, readExpr}
+use Rattle.decks.specs.Readings.{Reading, Whole, Wrong, Deep, onward}
 use Rattle.frames.proofs.HexLaws.{byte-pair, pair-byte, hex-from-zero}
 
 -- ---- the code of a sign

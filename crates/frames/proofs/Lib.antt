@@ -2,7 +2,6 @@ pub mod HexLaws
 pub mod ExprLaws
 pub mod LineLaws
 pub mod SizeLaws
-pub mod LeftLaws
 pub mod DeckLaws
 pub mod DeckWritten
 pub mod DeckRead

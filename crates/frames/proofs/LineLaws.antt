@@ -1,81 +1,24 @@
--- Laws of lines: what a line of each form is read as, what a line that is read was, and the walk over lines.
-use mathlib.Core.Path.{_≡_, refl, sym, ap, _∙_, subst}
-use mathlib.Core.Bool.{Bool, true, false, not}
+-- Laws of lines: what a line of each form is read as, what a line that is read was.
+use mathlib.Core.Path.{_≡_, refl, sym, ap, _∙_}
 use mathlib.Core.List.{List, [], _∷_, _++_, map, append-assoc, append-nil}
 use mathlib.Core.Option.{Option, none, some}
-use Prim.Native.Nat.{ℕ, suc, _+_, _^_, _<_, _≤_}
+use Prim.Native.Nat.{ℕ, _+_, _^_, _<_, _≤_}
 use native.Mathlib.Omega.{arith}
-use borrow.Author.Tests.{eq-eqb, eqb-true, not-false}
+use borrow.Author.Tests.{eq-eqb, eqb-true}
 use lib.Dec.{eqb}
-use lib.ListN.{length, drop, length-append}
+use lib.ListN.{drop}
 use Rattle.lists.specs.Lists.{Each, _among_, joined}
 use Rattle.lists.proofs.Laws.{each-at}
-use Rattle.logic.specs.Expressions.{Expr, levels, code}
+use Rattle.logic.specs.Expressions.{Expr, levels, code, Below}
 use Rattle.logic.specs.Decks.{base}
-use Rattle.logic.proofs.Codes.{Below}
-use Rattle.decks.specs.declared.Answer.{Answer}
-use Rattle.decks.specs.Answers.{Outcome, Got, Refused, refuse, afterwards}
+use Rattle.decks.specs.Answers.{Got}
+use Rattle.decks.proofs.Outcomes.{Given, refused-got, refuse-not-given, afterwards-given}
 use Rattle.frames.specs.Hex.{pair, pairs, number}
 use Rattle.frames.specs.Written.{setBytes, frame, stateFrames, nodePairs}
-use Rattle.frames.specs.Read.{Reading, Whole, Wrong, Deep, readExpr, wholeExpr, wholeNumber, kindOf, walk, countLine}
+use Rattle.frames.specs.Read.{readExpr, wholeExpr, wholeNumber, kindOf, countLine}
+use Rattle.decks.specs.Readings.{Reading, Whole, Wrong, Deep}
 use Rattle.frames.proofs.HexLaws.{byte-pair, pair-byte, hex-from-zero, pairs-from-zero, number-pairs, pairs-number}
 use Rattle.frames.proofs.ExprLaws.{expr-written-read, expr-read-written}
-
--- ---- outcomes
-
--- P of the result, where there is one.
-abbrev pub Given : {A : Type 0} → (A → Type 0) → Outcome A → Type 0
-Given P (Got x) = P x
-Given P (Refused a) = Unit
-
-module _ {A : Type 0} where
-  pub got-given : (P : A → Type 0) (r : Outcome A) (x : A) → Given P r → r ≡ Got x → P x
-  got-given P r x g e = subst (Given P) e g
-
-  pub refuse-given : (P : A → Type 0) (t : Bool) (a : Answer) (r : Outcome A) → (t ≡ false → Given P r) → Given P (refuse t a r)
-  refuse-given P true a r f = tt
-  refuse-given P false a r f = f refl
-
-  pub refuse-not-given : (P : A → Type 0) (t : Bool) (a : Answer) (r : Outcome A) → (t ≡ true → Given P r) → Given P (refuse (not t) a r)
-  refuse-not-given P t a r f = refuse-given P (not t) a r (λ e. f (not-false t e))
-
-  pub afterwards-given : {B : Type 0} (P : B → Type 0) (r : Outcome A) (f : A → Outcome B) → ((x : A) → r ≡ Got x → Given P (f x)) → Given P (afterwards r f)
-  afterwards-given P (Got x) f g = g x refl
-  afterwards-given P (Refused a) f g = tt
-
-pub refused-got : {A : Type 0} {P : Type 0} {x : A} {a : Answer} → Refused a ≡ Got x → P
-refused-got e = let z : _≡_ {A = ℕ} 0 1 = cc in absurd (omega arith)
-
--- ---- the walk
-
-module _ {S : Type 0} (f : ℕ → List ℕ → S → Outcome S) where
-  pub walk-got : (n : ℕ) (l : List ℕ) (ls : List (List ℕ)) (s t : S) → f n l s ≡ Got t → walk f n (l ∷ ls) s ≡ walk f (suc n) ls t
-  unfolding walk
-  walk-got n l ls s t e = simp (e, walk)
-
-  walk-refused : (n : ℕ) (l : List ℕ) (ls : List (List ℕ)) (s : S) (a : Answer) → f n l s ≡ Refused a → walk f n (l ∷ ls) s ≡ Refused a
-  unfolding walk
-  walk-refused n l ls s a e = simp (e, walk)
-
-  -- What each line keeps of the lines so far, the walk keeps of all. Line n has n - 1 lines before it.
-  pub walk-keeps : (K : List (List ℕ) → S → Type 0)
-      → ((past : List (List ℕ)) (l : List ℕ) (s : S) → K past s → Given (K (past ++ l ∷ [])) (f (suc (length past)) l s))
-      → (ls past : List (List ℕ)) (s : S)
-      → K past s
-      → Given (K (past ++ ls)) (walk f (suc (length past)) ls s)
-  unfolding walk
-  walk-keeps K step [] past s k = rw (append-nil past) k
-  walk-keeps K step (l ∷ ls) past s k = go (f (suc (length past)) l s) refl (step past l s k) (λ t. walk-keeps K step ls (past ++ l ∷ []) t)
-    where
-      go : (r : Outcome S)
-          → f (suc (length past)) l s ≡ r
-          → Given (K (past ++ l ∷ [])) r
-          → ((t : S) → K (past ++ l ∷ []) t → Given (K ((past ++ l ∷ []) ++ ls)) (walk f (suc (length (past ++ l ∷ []))) ls t))
-          → Given (K (past ++ l ∷ ls)) (walk f (suc (length past)) (l ∷ ls) s)
-      go (Refused a) e g more = rw (walk-refused _ l ls s a e) tt
-      go (Got t) e g more =
-          let long : length (past ++ l ∷ []) ≡ suc (length past) = length-append past (l ∷ []) ∙ omega arith in
-          rw (walk-got _ l ls s t e) (rw (append-assoc past (l ∷ []) ls, long) at (more t g))
 
 -- ---- lines
 

@@ -5,15 +5,15 @@ use mathlib.Core.Option.{Option, none, some}
 use Prim.Native.Nat.{ℕ, zero, suc, _+_, _-_, _*_, _/_, _%_}
 use lib.Dec.{ltb, eqb}
 use lib.ListN.{length, drop, getD}
-use lib.Count.{trailingZeros}
 use Rattle.lists.specs.Lists.{stands, ended, unended}
-use Rattle.sets.specs.Sets.{has, inside, union, only, without}
+use Rattle.sets.specs.Sets.{has, inside}
 use Rattle.logic.specs.Expressions.{Op1, Op2, Expr, Const, Var, One, Two, Not, Next, Future, Always, And, Or, Until, Weak, nodes, written, temporal}
 use Rattle.logic.specs.Decks.{Equation, Deck, base, totalNodes}
 use Rattle.logic.specs.Meaning.{Claim}
 use Rattle.decks.specs.declared.Answer.{Answer}
-use Rattle.decks.specs.declared.Answer.the-variants.{TooLong, Outside, Temporal, TooDeep, ManyInitials, ManyEquations, ManyNodes, NoEquation, BadFrame}
+use Rattle.decks.specs.declared.Answer.the-variants.{TooLong, Outside, Temporal, TooDeep, ManyInitials, ManyEquations, ManyNodes, BadFrame}
 use Rattle.decks.specs.Answers.{Outcome, Got, Refused, refuse, afterwards}
+use Rattle.decks.specs.Readings.{Reading, Whole, Wrong, Deep, onward, walk, complete}
 use Rattle.frames.specs.Hex.{byteOf, number}
 use Rattle.frames.specs.Written.{setBytes, setKind, initKind, equationKind, propertyKind, countKind, claimKind, stateKind, claimCountKind}
 
@@ -34,18 +34,6 @@ signs =
 -- 00 to 3F variables, 40 `0`, 41 `1`, 42 `~`, 43 `&`, 44 `+`, 45 `X`, 46 `F`, 47 `G`, 48 `U`, 49 `W`.
 unfoldable pub signOf : ℕ → Sign
 signOf n = elim (ltb n 64) [ true ↦ Leaf (Var n) | false ↦ getD signs (n - 64) NoSign ]
-
--- An expression and what stands behind it; or what stands from the first fault on: no code where one is due, or a code at level 33.
-pub data Reading : Type 0 where
-  Whole : Expr → List ℕ → Reading
-  Wrong : List ℕ → Reading
-  Deep : List ℕ → Reading
-
--- First the one expression, then, from what stands behind it, the rest.
-abbrev pub onward : Reading → (Expr → List ℕ → Reading) → Reading
-onward (Whole e cs) f = f e cs
-onward (Wrong cs) f = Wrong cs
-onward (Deep cs) f = Deep cs
 
 -- The sign that stands first and the pairs behind it: none where no pair stands there.
 abbrev pub signed : {A : Type 0} → List ℕ → (Sign → List ℕ → A) → A
@@ -87,11 +75,6 @@ unfoldable pub kindOf : List ℕ → ℕ
 kindOf [] = 256
 kindOf (h ∷ []) = 256
 kindOf (h ∷ l ∷ cs) = byteOf h l
-
--- Line by line from line n on: each line takes what the lines before it came to one further.
-unfoldable pub walk : {S : Type 0} → (ℕ → List ℕ → S → Outcome S) → ℕ → List (List ℕ) → S → Outcome S
-walk f n [] s = Got s
-walk f n (l ∷ ls) s = elim (f n l s) [ Got t ↦ walk f (suc n) ls t | Refused a ↦ Refused a ]
 
 -- ---- decks
 
@@ -189,17 +172,6 @@ frameLine k n cs d =
 -- Line n of a deck: 16 where its kind is not due.
 unfoldable pub deckLine : ℕ → List ℕ → Sofar → Outcome Sofar
 deckLine n l s = refuse (not (permits (s .due) (kindOf l))) (BadFrame 1 n) (frameLine (kindOf l) n (drop 2 l) (s .deck))
-
--- The variables on the left sides.
-unfoldable pub leftSet : List Equation → ℕ
-leftSet [] = 0
-leftSet (q ∷ qs) = union (only (q .left)) (leftSet qs)
-
--- 15: a variable has no equation, the lowest such one.
-unfoldable pub complete : Deck → Outcome Deck
-complete d =
-    let missing : ℕ = without (d .vars) (leftSet (d .equations)) in
-    refuse (not (eqb missing 0)) (NoEquation (trailingZeros (base .variables) missing)) (Got d)
 
 -- Behind the last line: 16 at place 0 where the text ends early, within a line or before 05; then 15.
 unfoldable pub deckEnd : List ℕ → Sofar → Outcome Deck

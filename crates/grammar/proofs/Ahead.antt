@@ -2,14 +2,12 @@
 use mathlib.Core.Path.{_≡_, refl, sym, ap, _∙_}
 use mathlib.Core.Bool.{not}
 use mathlib.Core.List.{List, [], _∷_, nil≢cons}
-use Prim.Native.Nat.{ℕ, suc, _+_, _-_, _<_, _≤_}
+use Prim.Native.Nat.{ℕ, _+_, _-_, _<_, _≤_}
 use native.Mathlib.Omega.{arith}
-use native.Mathlib.Numerals.{add-one}
 use borrow.Author.Tests.{eq-eqb, ne-eqb}
 use lib.ListN.{length, take, drop, getD}
-use lib.Seq.{drop-cons}
 use Rattle.lists.specs.Lists.{keep}
-use Rattle.lists.proofs.Laws.{keep-pass, keep-fail}
+use Rattle.lists.proofs.Laws.{part-next, keep-pass, keep-fail}
 use Rattle.cards.specs.Card.{isBlank}
 use Rattle.cards.specs.Statement.{inked}
 use Rattle.grammar.specs.declared.Ink.{Ink}
@@ -20,21 +18,14 @@ module _ (chars : List ℕ) (i end : ℕ) where
   unfolding ahead keep
   ahead-end h = let e : end - i ≡ 0 = omega arith in ap (λ (n : ℕ). inked (take n (drop i chars))) e
 
-  part-next : i < end → end ≤ length chars → take (end - i) (drop i chars) ≡ getD chars i 0 ∷ take (end - (i + 1)) (drop (i + 1) chars)
-  part-next h k =
-      let more : end - i ≡ suc (end - (i + 1)) = omega arith in
-      ap (λ (n : ℕ). take n (drop i chars)) more
-      ∙ ap (λ (l : List ℕ). take (suc (end - (i + 1))) l) (drop-cons chars i 0 (omega arith))
-      ∙ ap (λ (n : ℕ). getD chars i 0 ∷ take (end - (i + 1)) (drop n chars)) (sym (add-one i))
-
   pub ahead-blank : i < end → end ≤ length chars → getD chars i 0 ≡ 32 → ahead chars (i + 1) end ≡ ahead chars i end
   unfolding ahead
   ahead-blank h k e =
-      sym (ap inked (part-next h k) ∙ keep-fail (λ c. not (isBlank c)) (getD chars i 0) _ (ap not (eq-eqb (getD chars i 0) 32 e)))
+      sym (ap inked (part-next chars i end h (omega arith)) ∙ keep-fail (λ c. not (isBlank c)) (getD chars i 0) _ (ap not (eq-eqb (getD chars i 0) 32 e)))
 
   pub ahead-ink : i < end → end ≤ length chars → (getD chars i 0 ≡ 32 → ⊥) → ahead chars i end ≡ getD chars i 0 ∷ ahead chars (i + 1) end
   unfolding ahead
-  ahead-ink h k n = ap inked (part-next h k) ∙ keep-pass (λ c. not (isBlank c)) (getD chars i 0) _ (ap not (ne-eqb (getD chars i 0) 32 n))
+  ahead-ink h k n = ap inked (part-next chars i end h (omega arith)) ∙ keep-pass (λ c. not (isBlank c)) (getD chars i 0) _ (ap not (ne-eqb (getD chars i 0) 32 n))
 
 -- ---- the first place that is no blank
 

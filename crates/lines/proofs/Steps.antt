@@ -17,7 +17,8 @@ use Rattle.lists.proofs.Laws.{splice-nothing, length-splice, splice-splice, set
 use Rattle.sets.specs.Sets.{only, union}
 use Rattle.logic.specs.Expressions.{Expr, Op1, Op2, Const, Var, One, Two, Not, Next, Future, Always, And, Or, Until, Weak, nodes, written, temporal, node1, node2, code}
 use Rattle.frames.specs.Hex.{byteOf}
-use Rattle.frames.specs.Read.{Sign, Leaf, Before, Between, NoSign, signs, signOf, Reading, Whole, Wrong, Deep, onward, signed, levelled, begins, readExpr, kindOf}
+use Rattle.frames.specs.Read.{Sign, Leaf, Before, Between, NoSign, signs, signOf, signed, levelled, begins, readExpr, kindOf}
+use Rattle.decks.specs.Readings.{Reading, Whole, Wrong, Deep, onward}
 use Rattle.lines.specs.Steps.{placesOf, leafVars, stepOf, nodeOf, nodesOf}
 use Rattle.lines.specs.declared.Step.{Step}
 

@@ -6,17 +6,13 @@ use Prim.Native.Nat.{ℕ, zero, suc, _+_, _-_}
 use lib.Dec.{ltb, eqb}
 use lib.ListN.{length, drop}
 use Rattle.sets.specs.Sets.{only}
-use Rattle.logic.specs.Expressions.{Expr, nodes, written, temporal}
+use Rattle.logic.specs.Expressions.{nodes, written, temporal}
 use Rattle.frames.specs.Hex.{number}
-use Rattle.frames.specs.Read.{Sign, Leaf, Before, Between, NoSign, Reading, Whole, Wrong, Deep, kindOf}
+use Rattle.frames.specs.Read.{Sign, Leaf, Before, Between, NoSign, kindOf}
+use Rattle.decks.specs.Readings.{Reading, Whole, Wrong, Deep}
 use Rattle.lines.specs.declared.Number.{Number}
 use Rattle.lines.specs.declared.Number.the-variants.{Good, Bad}
 use Rattle.lines.specs.declared.Step.{Step}
-
--- The bytes that stand before the first byte 10: all, where there is none.
-unfoldable pub lineLength : List ℕ → ℕ
-lineLength [] = 0
-lineLength (b ∷ bs) = elim (eqb b 10) [ true ↦ 0 | false ↦ suc (lineLength bs) ]
 
 -- A number read, or not.
 abbrev pub numberRead : Option ℕ → Number

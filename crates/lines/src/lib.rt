@@ -1,16 +1,12 @@
-// Hexadecimal pairs, line ends, and the reader of one expression straight from its pairs.
+// Hexadecimal pairs, and the reader of one expression straight from its pairs.
 ghost use mathlib.Core.Path.{_≡_};
 ghost use mathlib.Core.Bool.{_||_};
-ghost use Prim.Native.Nat.{ℕ, _+_, _*_, _<_, _≤_};
+ghost use Prim.Native.Nat.{_+_, _*_, _<_, _≤_};
 ghost use lib.ListN.{length, drop, set};
-ghost use lib.Dec.{leb};
 ghost use Rattle.lists.specs.Lists.{splice};
 ghost use Rattle.frames.specs.Hex.{digitOf, number};
 ghost use Rattle.frames.specs.Read.{signOf, kindOf, readExpr};
-ghost use Rattle.lines.specs.Steps.{lineLength, numberRead, countIs, placesOf, stepOf, leafVars, nodeOf, nodesOf};
-
-// Byte 10 ends a line.
-const LINE_END: u8 = 10;
+ghost use Rattle.lines.specs.Steps.{numberRead, countIs, placesOf, stepOf, leafVars, nodeOf, nodesOf};
 
 // What stands where no pair is.
 pub const NO_PAIR: u64 = 256;
@@ -94,21 +90,6 @@ pub fn pair_at(line: &[u8], at: usize) -> u64
         return NO_PAIR;
     }
     16 * high + low
-}
-
-// Where the line that begins at a place of the text ends: at its byte 10, or at the end of the text.
-pub fn line_end(text: &[u8], at: usize) -> usize
-    requires { ⌜ at ≤ length (now text) ⌝ }
-    ensures { λ r. ⌜ (r ≡ at + lineLength (drop at (now (text .entry)))) × (at ≤ r) × (r ≤ length (now (text .entry))) ⌝ }
-{
-    let mut i = at;
-    while i < text.len() {
-        if text[i] == LINE_END {
-            return i;
-        }
-        i += 1;
-    }
-    i
 }
 
 // The number of exactly k pairs from a place of the line to its end.

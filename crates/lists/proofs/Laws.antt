@@ -1,17 +1,18 @@
 -- Laws of the words about lists.
-use mathlib.Core.Path.{_≡_, refl, sym, ap, _∙_, subst}
+use mathlib.Core.Path.{_≡_, refl, sym, ap, ap₂, _∙_, subst}
 use mathlib.Core.Logic.{_⊎_, inl, inr, ⊎-elim, by-cases}
 use mathlib.Core.Bool.{Bool, true, false}
 use mathlib.Core.List.{List, [], _∷_, _++_, map, append-assoc, append-nil, nil≢cons}
-use Prim.Native.Nat.{ℕ, zero, suc, _+_, _-_, _<_, _≤_}
+use Prim.Native.Nat.{ℕ, zero, suc, _+_, _-_, _<_, _≤_, min}
 use native.Mathlib.Omega.{arith}
 use native.Mathlib.Nat.{add-zero, sub-zero, add-assoc}
-use native.Mathlib.Decide.{ℕ-discrete}
-use lib.ListN.{length, take, drop, getD, set, replicate, length-append, length-replicate, length-drop, take-append-drop, drop-of-length-le}
-use lib.Seq.{take-at, drop-at, set-at, take-all, take-add, drop-drop, set-split, append-snoc, length-take-le, take-append-seam}
+use native.Mathlib.Numerals.{add-one, unary-clauses}
+use native.Mathlib.Decide.{ℕ-discrete, decLe}
+use lib.ListN.{length, take, drop, getD, set, replicate, length-append, length-replicate, length-drop, length-take, take-append-drop, drop-of-length-le}
+use lib.Seq.{take-take, take-append-le, take-nil, drop-nil, drop-cons, drop-append-add, take-at, drop-at, set-at, take-all, take-add, drop-drop, set-split, append-snoc, length-take-le, take-append-seam}
 use borrow.Rule.Slice.PartMut.{midOf, putMid}
 use borrow.Author.Tests.{eq-eqb, ne-eqb}
-use Rattle.lists.specs.Lists.{Each, Some, _among_, Distinct, keep, stands, others, firsts, padded, splice, fronted, ended, unended, joined}
+use Rattle.lists.specs.Lists.{Each, Some, _among_, Distinct, keep, stands, others, firsts, part, padded, splice, fronted, ended, unended, joined}
 
 -- ---- every member, some member
 
@@ -51,6 +52,12 @@ module _ {A : Type 0} where
   each-getD P [] i d ps h = absurd (omega arith)
   each-getD P (x ∷ xs) zero d ps h = ps .0
   each-getD P (x ∷ xs) (suc i) d ps h = each-getD P xs i d (ps .1) (omega arith)
+
+  -- P of what stands behind the end too.
+  pub each-default : (P : A → Type 0) (xs : List A) (i : ℕ) (d : A) → Each P xs → P d → P (getD xs i d)
+  each-default P [] i d ps z = z
+  each-default P (x ∷ xs) zero d ps z = ps .0
+  each-default P (x ∷ xs) (suc i) d ps z = each-default P xs i d (ps .1) z
 
   pub getD-each : (P : A → Type 0) (xs : List A) (d : A) → ((i : ℕ) → i < length xs → P (getD xs i d)) → Each P xs
   getD-each P [] d f = tt
@@ -297,6 +304,10 @@ snoc-distinct x (y ∷ ys) d =
       ⊎-elim (λ e. d .0 (among-right ys (x ∷ []) y (inl (sym e)))) (rest .1),
     )
 
+pub distinct-before : (xs : List ℕ) (x : ℕ) (ys : List ℕ) → Distinct (xs ++ x ∷ ys) → x among xs → ⊥
+distinct-before (y ∷ xs) x ys d (inl e) = d .0 (among-right xs (x ∷ ys) y (inl (sym e)))
+distinct-before (y ∷ xs) x ys d (inr m) = distinct-before xs x ys (d .1) m
+
 -- ---- the members that pass a test
 
 module _ {A : Type 0} (t : A → Bool) where
@@ -381,6 +392,70 @@ module _ {A : Type 0} (t u : A → Bool) where
       (λ e. ⊎-elim (λ p. let q = h x p in let z : _≡_ {A = ℕ} 0 1 = cc in absurd (omega arith)) (λ p. rw (keep-fail t x xs e, keep-fail u x xs p) (keep-keep xs h)) (test-cases u x))
       (test-cases t x)
 
+-- ---- a part of a list, place by place
+
+module _ (l : List ℕ) (i j : ℕ) where
+  pub part-next : i < j → i < length l → part i j l ≡ getD l i 0 ∷ part (i + 1) j l
+  part-next h k =
+      let e : j - i ≡ suc (j - (i + 1)) = omega arith in
+      ap₂ (λ (n : ℕ) (r : List ℕ). take n r) e (drop-cons l i 0 k ∙ ap (λ (n : ℕ). getD l i 0 ∷ drop n l) (sym (add-one i)))
+
+  pub part-off : length l ≤ i → part i j l ≡ []
+  part-off h = ap (λ (r : List ℕ). take (j - i) r) (drop-of-length-le l h) ∙ take-nil (j - i)
+
+  pub part-done : j ≤ i → part i j l ≡ []
+  part-done h = let e : j - i ≡ 0 = omega arith in ap (λ (n : ℕ). take n (drop i l)) e
+
+  pub length-part : j ≤ length l → length (part i j l) ≡ j - i
+  length-part h = omega (arith, length-take (j - i) (drop i l), length-drop i l)
+
+-- ---- the first places of a list, and a list filled up
+
+module _ {A : Type 0} where
+  -- A place of the list holds the same, whatever stands for the places behind its end.
+  pub getD-any : (l : List A) (i : ℕ) (d e : A) → i < length l → getD l i d ≡ getD l i e
+  getD-any [] i d e h = absurd (omega arith)
+  getD-any (x ∷ xs) zero d e h = refl
+  getD-any (x ∷ xs) (suc i) d e h = getD-any xs i d e (omega arith)
+
+  pub take-min : (n : ℕ) (l : List A) → take (min n (length l)) l ≡ take n l
+  take-min n l =
+      by-cases
+      (decLe n (length l))
+      (λ h. let e : min n (length l) ≡ n = omega arith in ap (λ (k : ℕ). take k l) e)
+      (λ h. take-all (min n (length l)) l (omega arith) ∙ sym (take-all n l (omega arith)))
+
+  pub drop-take : (i n : ℕ) (l : List A) → drop i (take (i + n) l) ≡ take n (drop i l)
+  drop-take zero n l = let e : 0 + n ≡ n = omega arith in ap (λ (k : ℕ). take k l) e
+  drop-take (suc i) n [] = ap (drop (suc i)) (take-all (suc i + n) [] (omega arith)) ∙ sym (take-all n [] (omega arith))
+  drop-take (suc i) n (x ∷ xs) = let e : suc i + n ≡ suc (i + n) = omega arith in ap (λ (k : ℕ). drop (suc i) (take k (x ∷ xs))) e ∙ drop-take i n xs
+
+  take-replicate : (n k : ℕ) (x : A) → n ≤ k → take n (replicate k x) ≡ replicate n x
+  take-replicate zero k x h = refl
+  take-replicate (suc n) zero x h = absurd (omega arith)
+  take-replicate (suc n) (suc k) x h = ap (λ (l : List A). x ∷ l) (take-replicate n k x (omega arith))
+
+  -- The first n places of a list that is filled up far enough.
+  pub take-filled : (n k : ℕ) (l : List A) (x : A) → n ≤ k → take n (l ++ replicate k x) ≡ take n l ++ replicate (n - length l) x
+  take-filled zero k l x h = let e : 0 - length l ≡ 0 = omega arith in sym (ap (λ (m : ℕ). replicate m x) e)
+  take-filled (suc n) k [] x h = simp unary-clauses (take-replicate (suc n) k x h)
+  take-filled (suc n) k (y ∷ ys) x h = simp unary-clauses (ap (λ (m : List A). y ∷ m) (take-filled n k ys x (omega arith)))
+
+pub take-less : (m n : ℕ) (xs ys : List ℕ) → m ≤ n → take n xs ≡ take n ys → take m xs ≡ take m ys
+take-less m n xs ys h e = sym (take-take m n xs h) ∙ ap (take m) e ∙ take-take m n ys h
+
+-- A place of a list that is filled up.
+pub getD-filled : (f : List ℕ) (m i x d : ℕ) → i < length f + m → getD (f ++ replicate m x) i d ≡ getD f i x
+getD-filled [] zero i x d h = absurd (omega arith)
+getD-filled [] (suc m) zero x d h = refl
+getD-filled [] (suc m) (suc i) x d h = getD-filled [] m i x d (omega arith)
+getD-filled (y ∷ ys) m zero x d h = refl
+getD-filled (y ∷ ys) m (suc i) x d h = getD-filled ys m i x d (omega arith)
+
+pub each-replicate : (P : ℕ → Type 0) (n x : ℕ) → P x → Each P (replicate n x)
+each-replicate P zero x p = tt
+each-replicate P (suc n) x p = (p, each-replicate P n x p)
+
 -- ---- a list filled up with zeros
 
 pub padded-nil : (n : ℕ) → padded n [] ≡ replicate n 0
@@ -414,6 +489,19 @@ padded-snoc n l x h =
 
 pub padded-one : (n : ℕ) (l m : List ℕ) → length l ≡ length m → padded n l ≡ padded n m → l ≡ m
 padded-one n l m e p = sym (take-padded n l) ∙ ap (λ (k : List ℕ). take (length l) k) p ∙ ap (λ (k : ℕ). take k (padded n m)) e ∙ take-padded n m
+
+drop-zeros : (n k : ℕ) → drop {A = ℕ} k (replicate n 0) ≡ replicate (n - k) 0
+drop-zeros zero k = let e : 0 ≡ 0 - k = omega arith in drop-nil k ∙ ap (λ (m : ℕ). replicate m 0) e
+drop-zeros (suc n) zero = let e : suc n ≡ suc n - 0 = omega arith in ap (λ (m : ℕ). replicate m 0) e
+drop-zeros (suc n) (suc k) = let e : n - k ≡ suc n - suc k = omega arith in drop-zeros n k ∙ ap (λ (m : ℕ). replicate m 0) e
+
+-- A list put behind it.
+pub padded-append : (n : ℕ) (l vs : List ℕ) → splice (length l) vs (padded n l) ≡ padded n (l ++ vs)
+padded-append n l vs =
+    let less : n - length l - length vs ≡ n - length (l ++ vs) = omega (arith, length-append l vs) in
+    ap (λ (m : List ℕ). m ++ (vs ++ drop (length l + length vs) (padded n l))) (take-append-seam l (replicate (n - length l) 0))
+    ∙ ap (λ (m : List ℕ). l ++ (vs ++ m)) (drop-append-add l (replicate (n - length l) 0) (length vs) ∙ drop-zeros (n - length l) (length vs) ∙ ap (λ (k : ℕ). replicate k 0) less)
+    ∙ sym (append-assoc l vs (replicate (n - length (l ++ vs)) 0))
 
 -- ---- a buffer with something put over a part of it
 
@@ -459,6 +547,20 @@ splice-splice i vs ws l h =
 -- One store.
 pub set-splice : (l : List ℕ) (i x : ℕ) → i < length l → set l i x ≡ splice i (x ∷ []) l
 set-splice l i x h = let e : suc i ≡ i + 1 = omega arith in set-split l i x h ∙ ap (λ (k : ℕ). take i l ++ x ∷ drop k l) e
+
+-- One store before what was put from the next place on.
+pub set-before-splice : (i x : ℕ) (vs l : List ℕ) → i + 1 + length vs ≤ length l → set (splice (i + 1) vs l) i x ≡ splice i (x ∷ vs) l
+set-before-splice i x vs l h =
+    let k : List ℕ = splice (i + 1) vs l in
+    let long : length (take (i + 1) l) ≡ i + 1 = length-take-le (i + 1) l (omega arith) in
+    let room : length k ≡ length l = length-splice (i + 1) vs l h in
+    let e : i + 1 + length vs ≡ i + suc (length vs) = omega arith in
+    set-splice k i x (omega arith)
+    ∙ ap₂
+    (λ (p q : List ℕ). p ++ x ∷ q)
+    (take-append-le i (take (i + 1) l) (vs ++ drop (i + 1 + length vs) l) (omega arith) ∙ take-take i (i + 1) l (omega arith))
+    (drop-at (take (i + 1) l) (vs ++ drop (i + 1 + length vs) l) (i + 1) long)
+    ∙ ap (λ (n : ℕ). take i l ++ x ∷ (vs ++ drop n l)) e
 
 -- The part from a on, and the whole with ys in its place.
 pub part-rest : (a : ℕ) (xs : List ℕ) → midOf a (length xs - a) xs ≡ drop a xs

@@ -52,6 +52,10 @@ unfoldable pub firsts : List ℕ → List ℕ
 firsts [] = []
 firsts (x ∷ xs) = x ∷ others x (firsts xs)
 
+-- The members from place i up to but without place j.
+abbrev pub part : ℕ → ℕ → List ℕ → List ℕ
+part i j l = take (j - i) (drop i l)
+
 -- The list, filled up with zeros to n places.
 abbrev pub padded : ℕ → List ℕ → List ℕ
 padded n l = l ++ replicate (n - length l) 0

@@ -2,7 +2,7 @@
 use mathlib.Core.Path.{_≡_, refl, sym, ap, _∙_}
 use mathlib.Core.Bool.{Bool, true, false}
 use mathlib.Core.List.{List, [], _∷_, _++_, append-assoc, append-nil, head-eq-of-cons-eq, tail-eq-of-cons-eq}
-use Prim.Native.Nat.{ℕ, _+_, _-_, _^_, _<_, _≤_}
+use Prim.Native.Nat.{ℕ, _-_, _^_, _<_, _≤_}
 use native.Mathlib.Omega.{arith}
 use borrow.Author.Tests.{lt-ltb}
 use lib.Dec.{ltb}
@@ -11,20 +11,9 @@ use Rattle.lists.specs.Lists.{Each}
 use Rattle.lists.proofs.Laws.{each-append}
 use Rattle.sets.specs.Sets.{_⊆_}
 use Rattle.sets.proofs.Laws.{bit-only, union-left, union-right, subset-trans, member-lt}
-use Rattle.logic.specs.Expressions.{Expr, Const, Var, One, Two, Op1, Op2, Not, Next, Future, Always, And, Or, Until, Weak, nodes, levels, written, constNode, node1, node2, code}
+use Rattle.logic.specs.Expressions.{Expr, Const, Var, One, Two, Op1, Op2, Not, Next, Future, Always, And, Or, Until, Weak, nodes, levels, written, Below, Narrow, constNode, node1, node2, code}
 
 -- ---- variables below a bound
-
--- Every variable written in the expression is below w.
-abbrev pub Below : ℕ → Expr → Type 0
-Below w (Const b) = Unit
-Below w (Var v) = v < w
-Below w (One o e) = Below w e
-Below w (Two o a b) = Below w a × Below w b
-
--- Every variable of the expression has a node of its own.
-abbrev pub Narrow : Expr → Type 0
-Narrow e = Below 256 e
 
 pub below-more : (w u : ℕ) (e : Expr) → w ≤ u → Below w e → Below u e
 below-more w u (Const b) h n = tt

@@ -1,6 +1,6 @@
 -- What entitles us to check the pieces and sign for the deck: runs of the deck and of its pieces, and demand 3.
 use mathlib.Core.Path.{_≡_, refl, sym, ap, ap₂, _∙_, subst}
-use mathlib.Core.Logic.{_⊎_, inl, inr, ⊎-elim, by-cases, _↔_}
+use mathlib.Core.Logic.{inl, inr, ⊎-elim, by-cases, _↔_}
 use mathlib.Core.Bool.{Bool, true, false}
 use mathlib.Core.List.{List, [], _∷_, map, nil≢cons}
 use Prim.Native.Nat.{ℕ, zero, suc, _+_, _-_, _*_, _<_, _≤_, min, max}
@@ -10,7 +10,7 @@ use native.Mathlib.Nat.{le-refl}
 use lib.Dec.{eqb}
 use borrow.Author.Tests.{eq-eqb, ne-eqb, eqb-true, eqb-false}
 use Rattle.lists.specs.Lists.{Each, Some, _among_, keep}
-use Rattle.lists.proofs.Laws.{each-at, each-map, some-find, find-some, some-of-map, map-some, keep-pass, keep-fail}
+use Rattle.lists.proofs.Laws.{each-at, each-map, each-or-some, some-find, find-some, some-of-map, map-some, keep-pass, keep-fail}
 use Rattle.sets.specs.Sets.{bit, _∋_, _⊆_, has, only, union, meet}
 use Rattle.sets.proofs.Laws.{subset-le, bit-meet-in, bit-zero, bit-union, bit-only, only-bit, not-in, member-dec, has-true, has-false, subset-trans, union-left, union-right, union-least, meet-right}
 use Rattle.logic.specs.Expressions.{Expr, Const, Var, One, Two, Not, Next, Future, Always, And, Or, Until, Weak, written, value}
@@ -350,16 +350,10 @@ run-extended L d e a w r h l =
 cone-truth : (d : Deck) (e : Expr) (r r′ : Run) → ((k v : ℕ) → coneOf d e ∋ v → bit (r k) v ≡ bit (r′ k) v) → Holds r e 0 ↔ Holds r′ e 0
 cone-truth d e r r′ h = only-written e r r′ 0 (λ v k i l. h k v (cone-is (d .equations) (written e) .holds v i))
 
--- general: not of each member, so, where it is decided, of some member not
-pub each-or-some : {A : Type 0} (P : A → Type 0) → ((x : A) → Dec (P x)) → (xs : List A) → Each P xs ⊎ Some (λ (x : A). P x → ⊥) xs
-each-or-some P f [] = inl tt
-each-or-some P f (x ∷ xs) =
-    by-cases (f x) (λ p. ⊎-elim (λ ps. inl (p, ps)) (λ s. inr (inr s)) (each-or-some P f xs)) (λ n. inr (inl n))
-
 -- A looping run breaks the property exactly when it breaks one of the conjuncts.
 pub breaks-split : (r : Run) (e : Expr) → Loops r → Breaks r e ↔ Some (Breaks r) (split e)
 breaks-split r e l = (
-  λ b. ⊎-elim (λ ps. absurd (b (split-and r e 0 .1 ps))) (λ s. s) (each-or-some (λ (a : Expr). Holds r a 0) (λ a. holds-dec a r l 0) (split e)),
+  λ b. ⊎-elim (λ ps. absurd (b (split-and r e 0 .1 ps))) (λ s. s) (each-or-some (λ (a : Expr). Holds r a 0) (Breaks r) (split e) (λ a. by-cases (holds-dec a r l 0) (λ h. inl h) (λ n. inr n))),
   λ s h. let f = some-find (Breaks r) (split e) s in f .2 (each-at (λ (a : Expr). Holds r a 0) (split e) (f .0) (split-and r e 0 .0 h) (f .1)),
 )
 

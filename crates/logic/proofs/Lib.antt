@@ -4,6 +4,7 @@ pub mod Cone
 pub mod Demand3
 pub mod Operators
 pub mod Pieces
+pub mod Rights
 pub mod Spelling
 pub mod Truth
 pub mod Verdict

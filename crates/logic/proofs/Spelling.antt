@@ -12,8 +12,7 @@ use lib.Dec.{eqb}
 use lib.ListN.{length, length-append}
 use Rattle.lists.specs.Lists.{Each, _among_}
 use Rattle.lists.proofs.Laws.{each-at, each-map, each-append}
-use Rattle.logic.specs.Expressions.{Expr, Const, Var, One, Two, Op1, Op2, Not, Next, Future, Always, And, Or, Until, Weak, nodes, constSign, sign1, sign2, decimal, spelling}
-use Rattle.logic.proofs.Codes.{Below}
+use Rattle.logic.specs.Expressions.{Expr, Const, Var, One, Two, Op1, Op2, Not, Next, Future, Always, And, Or, Until, Weak, nodes, constSign, sign1, sign2, decimal, spelling, Below}
 
 -- ---- numbers
 

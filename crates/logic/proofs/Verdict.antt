@@ -8,11 +8,11 @@ use native.Mathlib.Omega.{arith}
 use native.Mathlib.Nat.{le-refl}
 use native.Mathlib.Decide.{decLt, ℕ-discrete, le-ind}
 use lib.Dec.{eqb}
-use lib.ListN.{getD}
 use borrow.Author.Tests.{eqb-true, eqb-false, eq-eqb, lt-ltb, le-ltb}
 use Rattle.lists.specs.Lists.{Each, Some, _among_, stands}
+use Rattle.lists.proofs.Laws.{each-default, true-stands, false-stands}
 use Rattle.sets.specs.Sets.{bit, _∋_, _⊆_, only, union, meet}
-use Rattle.sets.proofs.Laws.{bit-lt, bit-zero, bit-or-zero, bit-union, bit-only, only-bit, union-left, union-right, meet-left, meet-right, meet-most, subset-refl, subset-antisym}
+use Rattle.sets.proofs.Laws.{bit-lt, bit-zero, bit-only, only-bit, union-left, union-right, union-cases, meet-subset, subset-meet}
 use Rattle.logic.specs.Expressions.{Expr, Const, Var, One, Two, Not, Next, Future, Always, And, Or, Until, Weak, value}
 use Rattle.logic.specs.Decks.{Equation, Deck, Limits}
 use Rattle.logic.specs.Meaning.{Holds, Step, RunOf, Loops, Breaks, Claim, Sized, stateOf, follower, position, claimRun}
@@ -218,37 +218,6 @@ truth-is L m sized (Two Until a b) k =
 truth-is L m sized (Two Weak a b) k =
     weak-worked L m sized a b (truth m a) (truth m b) (truth-lt m a) (truth-lt m b) (truth-is L m sized a) (truth-is L m sized b) (m .p + m .c) k (omega arith)
 
--- general: sets and lists
-
-in-union : (s t i : ℕ) → union s t ∋ i ↔ ((s ∋ i) ⊎ (t ∋ i))
-in-union s t i = (λ h. ⊎-elim (λ z. inr (omega (arith, bit-union s t i, z, h))) (λ o. inl o) (bit-or-zero s i), ⊎-elim (union-left s t i) (union-right s t i))
-
-meet-whole : (s t : ℕ) → meet s t ≡ s ↔ s ⊆ t
-meet-whole s t = (λ e. subst (λ (u : ℕ). u ⊆ t) e (meet-right s t), λ f. subset-antisym (meet s t) s (meet-left s t) (meet-most s t s (subset-refl s) f))
-
-true-stands : (x : ℕ) (ys : List ℕ) → stands x ys ≡ true → x among ys
-unfolding stands
-true-stands x [] h = let z : _≡_ {A = ℕ} 0 1 = cc in absurd (omega arith)
-true-stands x (y ∷ ys) h = go (eqb x y) refl (λ e. true-stands x ys e) h
-  where
-    go : (t : Bool) → eqb x y ≡ t → (stands x ys ≡ true → x among ys) → elim t [ true ↦ true | false ↦ stands x ys ] ≡ true → x among y ∷ ys
-    go true e f h = inl (eqb-true x y e)
-    go false e f h = inr (f h)
-
-false-stands : (x : ℕ) (ys : List ℕ) → stands x ys ≡ false → x among ys → ⊥
-unfolding stands
-false-stands x (y ∷ ys) h (inl e) = let q = eq-eqb x y e in let w : stands x (y ∷ ys) ≡ true = simp (q, stands) in let z : _≡_ {A = ℕ} 0 1 = cc in omega arith
-false-stands x (y ∷ ys) h (inr a) = go (eqb x y) (λ e. false-stands x ys e a) h
-  where
-    go : (t : Bool) → (stands x ys ≡ false → ⊥) → elim t [ true ↦ true | false ↦ stands x ys ] ≡ false → ⊥
-    go true f h = let z : _≡_ {A = ℕ} 0 1 = cc in omega arith
-    go false f h = f h
-
-each-getD : (P : ℕ → Type 0) → P 0 → (xs : List ℕ) → Each P xs → (i : ℕ) → P (getD xs i 0)
-each-getD P z [] ps i = z
-each-getD P z (x ∷ xs) ps zero = ps .0
-each-getD P z (x ∷ xs) ps (suc i) = each-getD P z xs (ps .1) i
-
 -- ---- the steps, worked out
 
 -- The variables taken are those with an equation that gives the value.
@@ -262,8 +231,8 @@ taken-is (q ∷ qs) s t v = go (eqb (value s (q .right)) (bit t (q .left))) refl
 
     go : (b : Bool) → eqb (value s (q .right)) (bit t (q .left)) ≡ b → (taken qs s t ∋ v ↔ Some Gives qs) → elim b [ true ↦ union (only (q .left)) (taken qs s t) | false ↦ taken qs s t ] ∋ v ↔ (Gives q ⊎ Some Gives qs)
     go true e f = (
-      λ h. ⊎-elim (λ o. let z : v ≡ q .left = only-bit (q .left) v o in inl (sym z, eqb-true (value s (q .right)) (bit t (q .left)) e ∙ ap (bit t) (sym z))) (λ r. inr (f .0 r)) (in-union (only (q .left)) (taken qs s t) v .0 h),
-      λ h. in-union (only (q .left)) (taken qs s t) v .1 (⊎-elim (λ g. inl (subst (λ (u : ℕ). only (q .left) ∋ u) (g .0) (bit-only (q .left)))) (λ r. inr (f .1 r)) h),
+      λ h. ⊎-elim (λ o. let z : v ≡ q .left = only-bit (q .left) v o in inl (sym z, eqb-true (value s (q .right)) (bit t (q .left)) e ∙ ap (bit t) (sym z))) (λ r. inr (f .0 r)) (union-cases (only (q .left)) (taken qs s t) v h),
+      λ h. ⊎-elim (λ g. union-left (only (q .left)) (taken qs s t) v (subst (λ (u : ℕ). only (q .left) ∋ u) (g .0) (bit-only (q .left)))) (λ r. union-right (only (q .left)) (taken qs s t) v (f .1 r)) h,
     )
     go false e f = (
       λ h. inr (f .0 h),
@@ -274,9 +243,9 @@ taken-is (q ∷ qs) s t v = go (eqb (value s (q .right)) (bit t (q .left))) refl
 pub step-is : (d : Deck) (s t : ℕ) → allowed d s t ≡ true ↔ Step d s t
 unfolding allowed
 step-is d s t =
-    let whole = meet-whole (d .vars) (taken (d .equations) s t) in (
-      λ e v i. taken-is (d .equations) s t v .0 (whole .0 (eqb-true (meet (d .vars) (taken (d .equations) s t)) (d .vars) e) v i),
-      λ f. eq-eqb (meet (d .vars) (taken (d .equations) s t)) (d .vars) (whole .1 (λ v i. taken-is (d .equations) s t v .1 (f v i))),
+    let took = taken (d .equations) s t in (
+      λ e v i. taken-is (d .equations) s t v .0 (meet-subset (d .vars) took (eqb-true (meet (d .vars) took) (d .vars) e) v i),
+      λ f. eq-eqb (meet (d .vars) took) (d .vars) (subset-meet (d .vars) took (λ v i. taken-is (d .equations) s t v .1 (f v i))),
     )
 
 -- ---- the verdict
@@ -297,7 +266,7 @@ module _ (L : Limits) (d : Deck) (m : Claim) (sized : Sized L m) (inside : Each 
   unfolding position
   all-steps s f = record {
     starts = s;
-    within = λ k. each-getD (λ (s : ℕ). s ⊆ d .vars) (λ i h. absurd (omega (arith, bit-zero i))) (m .states) inside (position m k);
+    within = λ k. each-default (λ (s : ℕ). s ⊆ d .vars) (m .states) (position m k) 0 inside (λ i h. absurd (omega (arith, bit-zero i)));
     steps = λ k. f (position m k) (position-lt L m sized k);
   }
 

@@ -1,5 +1,4 @@
 -- Expressions. An expression is `0`, `1`, a variable, one of `~ X F G` before an expression, or two expressions joined by one of `& + U W`.
-use mathlib.Core.Path.{_≡_}
 use mathlib.Core.Bool.{Bool, true, false}
 use mathlib.Core.List.{List, [], _∷_, _++_}
 use Prim.Native.Nat.{ℕ, _+_, _-_, _/_, _%_, _<_, min, max}
@@ -41,6 +40,17 @@ written (Const b) = 0
 written (Var v) = only v
 written (One o e) = written e
 written (Two o a b) = union (written a) (written b)
+
+-- Every variable written in the expression is below w.
+abbrev pub Below : ℕ → Expr → Type 0
+Below w (Const b) = Unit
+Below w (Var v) = v < w
+Below w (One o e) = Below w e
+Below w (Two o a b) = Below w a × Below w b
+
+-- Every variable of the expression has a node of its own.
+abbrev pub Narrow : Expr → Type 0
+Narrow e = Below 256 e
 
 -- Of the operators only `~ & +` are used.
 unfoldable pub Plain : Expr → Type 0

@@ -1,5 +1,4 @@
 pub mod Signs
-pub mod Arrays
 pub mod Expressions
 pub mod Operators
 pub mod Wholes

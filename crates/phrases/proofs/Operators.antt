@@ -1,6 +1,6 @@
 -- What the reader of operands answers: a fault in an operand, one operand, no operator between two, no bracket behind them, two operands.
 use mathlib.Core.Path.{_≡_, refl, sym, ap, ap₂, _∙_, subst}
-use mathlib.Core.Logic.{_⊎_, inl, inr, ⊎-elim, by-cases}
+use mathlib.Core.Logic.{inl, inr, ⊎-elim, by-cases}
 use mathlib.Core.List.{List, _∷_}
 use mathlib.Core.Option.{none}
 use Prim.Native.Nat.{ℕ, suc, _+_, _-_, _/_, _%_, _<_, _≤_}
@@ -9,7 +9,7 @@ use native.Mathlib.Decide.{ℕ-discrete}
 use lib.ListN.{length, take, set, length-set}
 use lib.Seq.{take-set-le}
 use Rattle.lists.specs.Lists.{splice}
-use Rattle.lists.proofs.Laws.{splice-splice}
+use Rattle.lists.proofs.Laws.{splice-splice, take-less, set-before-splice}
 use Rattle.logic.specs.Expressions.{Expr, Op1, Op2, One, Two, nodes, code, node1, node2}
 use Rattle.logic.proofs.Codes.{length-code}
 use Rattle.decks.specs.Readings.{Reading, Whole, Wrong, Deep, onward}
@@ -20,7 +20,6 @@ use Rattle.grammar.proofs.Ahead.{ink-cons}
 use Rattle.phrases.specs.declared.Phrase.{Phrase}
 use Rattle.phrases.specs.Phrases.{markOf, jointMark, Tells, Reads, Joins, Closes}
 use Rattle.phrases.proofs.Signs.{mark-before, mark-no-joint, mark-joint, joint-there, expr-sign, past-none, past-one, past-no-joint, past-joint}
-use Rattle.phrases.proofs.Arrays.{take-less, set-before-splice}
 use Rattle.phrases.proofs.Expressions.{tells-same}
 
 module _ (chars : List ℕ) (end : ℕ) (r : Phrase) (out : List ℕ) (used : ℕ) (after : List ℕ) where

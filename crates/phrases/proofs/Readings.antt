@@ -3,12 +3,11 @@ use mathlib.Core.Path.{_≡_, refl, sym, ap, subst}
 use mathlib.Core.Bool.{Bool, true, false}
 use mathlib.Core.List.{List, [], _∷_}
 use mathlib.Core.Option.{Option, none, some}
-use Prim.Native.Nat.{ℕ, zero, suc, _+_, _-_, _*_, _<_, _≤_}
+use Prim.Native.Nat.{ℕ, zero, suc, _+_, _*_, _<_, _≤_}
 use native.Mathlib.Omega.{arith}
 use lib.Dec.{eqb}
 use lib.ListN.{length}
-use Rattle.logic.specs.Expressions.{Expr, Two, Op2, nodes, levels}
-use Rattle.logic.proofs.Codes.{Below}
+use Rattle.logic.specs.Expressions.{Expr, Two, Op2, nodes, levels, Below}
 use Rattle.decks.specs.Readings.{Reading, Whole, Wrong, Deep, onward}
 use Rattle.cards.specs.Card.{isDigit}
 use Rattle.cards.specs.Grammar.{Sign, Constant, Variable, Before, Bracket, NoSign, Counted, Number, NoNumber, digitValue, secondDigit, readNumber, signOf, jointOf, past, pastJoint, variable, levelled, begins, readExpr}

@@ -88,6 +88,9 @@ member-dec s i = ⊎-elim (λ z. no (λ o. omega (arith, z, o))) (λ o. yes o) (
 pub subset-refl : (s : ℕ) → s ⊆ s
 subset-refl s i h = h
 
+pub nothing-within : (t : ℕ) → 0 ⊆ t
+nothing-within t i z = absurd (omega (arith, z, bit-zero i))
+
 pub subset-trans : (s t u : ℕ) → s ⊆ t → t ⊆ u → s ⊆ u
 subset-trans s t u f g i h = g i (f i h)
 
@@ -107,6 +110,16 @@ union-right s t i h = omega (arith, bit-union s t i, bit-lt s i, h)
 
 pub union-least : (s t u : ℕ) → s ⊆ u → t ⊆ u → union s t ⊆ u
 union-least s t u f g i h = ⊎-elim (λ z. g i (omega (arith, bit-union s t i, z, h))) (λ o. f i o) (bit-or-zero s i)
+
+pub union-assoc : (s t u : ℕ) → union s (union t u) ≡ union (union s t) u
+union-assoc s t u =
+    ext
+    (union s (union t u))
+    (union (union s t) u)
+    (λ i. omega (arith, bit-union s (union t u) i, bit-union t u i, bit-union (union s t) u i, bit-union s t i))
+
+pub union-nothing : (s : ℕ) → union s 0 ≡ union 0 s
+union-nothing s = ext (union s 0) (union 0 s) (λ i. omega (arith, bit-union s 0 i, bit-union 0 s i))
 
 pub union-cases : (s t i : ℕ) → union s t ∋ i → (s ∋ i) ⊎ (t ∋ i)
 union-cases s t i h = ⊎-elim (λ z. inr (omega (arith, bit-union s t i, z, h))) (λ o. inl o) (bit-or-zero s i)

@@ -1,41 +1,34 @@
 -- Laws of the statement in hand and of the walk from statement to statement.
 use mathlib.Core.Path.{_≡_, refl, sym, ap, _∙_, subst}
 use mathlib.Core.Bool.{Bool, true, false, not, _&&_, _||_}
-use mathlib.Core.List.{List, [], _∷_, _++_, append-assoc}
-use Prim.Native.Nat.{ℕ, zero, suc, _+_, _-_, _*_, _<_, _≤_}
+use mathlib.Core.List.{List, [], _∷_, _++_}
+use Prim.Native.Nat.{ℕ, suc, _+_, _-_, _*_, _<_, _≤_}
 use native.Mathlib.Omega.{arith}
 use native.Mathlib.Numerals.{add-one}
 use lib.Dec.{ltb}
 use lib.ListN.{length, take, drop, getD, set, replicate, length-append, length-take, length-drop, length-replicate, drop-of-length-le}
-use lib.Seq.{take-all, take-suc, drop-at, drop-drop}
+use lib.Seq.{take-all, take-suc}
 use borrow.Author.Tests.{ltb-false}
-use Rattle.lists.specs.Lists.{padded, splice, ended, unended}
-use Rattle.lists.proofs.Laws.{padded-snoc, take-padded, splice-nothing, splice-splice, set-splice, length-splice}
-use Rattle.decks.specs.declared.Answer.{Answer}
+use Rattle.lists.specs.Lists.{splice, ended, unended}
+use Rattle.lists.proofs.Laws.{getD-filled, padded-append, padded-snoc, splice-nothing, splice-splice, set-splice, length-splice}
 use Rattle.decks.specs.declared.Answer.the-variants.{BadByte, TooWide, BadStart, BadNumber, TooManyCards}
 use Rattle.decks.specs.Answers.{Outcome, Got, Refused, refuse}
 use Rattle.decks.specs.Readings.{walk}
+use Rattle.decks.proofs.Outcomes.{got-eq, refuse-got, refuse-not}
 use Rattle.cards.specs.Card.{cardsOf, blank, cardColumns, every, isBlank, isComment, printable, numbered, fieldStart, fieldEnd, column, columns, continuations, Kind, Comment, Empty, Opening, Continuing, kindOf, closes, Open, Shut, Continued, opened, cardInForm}
-use Rattle.cards.specs.Statement.{Statement, Nothing, Held, laid, gathered, fieldOf, folded}
+use Rattle.cards.specs.Statement.{Statement, Nothing, Held, laid, gathered, fieldOf}
 use Rattle.firstpass.specs.declared.CardKind.{CardKind}
 use Rattle.firstpass.specs.declared.CardKind.the-variants.{Continuing as ContinuingCard}
-use Rattle.firstpass.specs.Passed.{lineLength, kindIs}
+use Rattle.firstpass.specs.Passed.{kindIs}
+use Rattle.ends.specs.Ends.{lineLength}
 use Rattle.firstpass.proofs.Laws.{cards-next, field-filled}
 use Rattle.statements.specs.declared.Stmt.{Stmt}
-use Rattle.statements.specs.Hold.{characters, held, stmtOf, Room, filled, withCard, foldedIn, opens, Formed, AtOpening, FirstOf, Takes}
+use Rattle.statements.specs.Hold.{held, stmtOf, Room, filled, withCard, foldedIn, opens, Formed, AtOpening, FirstOf, Takes}
 
 -- ---- a field put behind those in hand
 
 pub length-filled : (f : List ℕ) → length f ≤ 66 → length (filled f) ≡ 66
 length-filled f h = omega (arith, length-append f (replicate (66 - length f) blank), length-replicate {A = ℕ} (66 - length f) blank)
-
--- general: a place of a list that is filled up.
-getD-filled : (f : List ℕ) (m i x d : ℕ) → i < length f + m → getD (f ++ replicate m x) i d ≡ getD f i x
-getD-filled [] zero i x d h = absurd (omega arith)
-getD-filled [] (suc m) zero x d h = refl
-getD-filled [] (suc m) (suc i) x d h = getD-filled [] m i x d (omega arith)
-getD-filled (y ∷ ys) m zero x d h = refl
-getD-filled (y ∷ ys) m (suc i) x d h = getD-filled ys m i x d (omega arith)
 
 pub fill-none : (at : ℕ) (f l : List ℕ) → l ≡ splice at (take 0 (filled f)) l
 fill-none at f l = sym (splice-nothing at l)
@@ -65,33 +58,14 @@ fill-done s n i f m h w e =
     (withChars s n)
     (e ∙ ap (λ (x : List ℕ). splice (s .used) x (s .chars)) (take-all i (filled f) (omega (arith, length-filled f w))))
 
--- ---- general: one part behind a list that is filled up with zeros
-
-drop-zeros : (k n : ℕ) → drop {A = ℕ} k (replicate n 0) ≡ replicate (n - k) 0
-drop-zeros zero n = let e : n - 0 ≡ n = omega arith in ap (λ (j : ℕ). replicate j 0) (sym e)
-drop-zeros (suc k) zero = let e : 0 - suc k ≡ 0 = omega arith in ap (λ (j : ℕ). replicate j 0) (sym e)
-drop-zeros (suc k) (suc n) = drop-zeros k n ∙ (let e : n - k ≡ suc n - suc k = omega arith in ap (λ (j : ℕ). replicate j 0) e)
-
-pub splice-padded : (n : ℕ) (l v : List ℕ) → splice (length l) v (padded n l) ≡ padded n (l ++ v)
-splice-padded n l v =
-    let z : List ℕ = replicate (n - length l) 0 in
-    let less : n - length l - length v ≡ n - length (l ++ v) = omega (arith, length-append l v) in
-    ap (λ (x : List ℕ). x ++ (v ++ drop (length l + length v) (padded n l))) (take-padded n l)
-    ∙ ap (λ (x : List ℕ). l ++ (v ++ x)) (sym (drop-drop (length v) (length l) (l ++ z)) ∙ ap (drop (length v)) (drop-at l z (length l) refl) ∙ drop-zeros (length v) (n - length l) ∙ ap (λ (k : ℕ). replicate k 0) less)
-    ∙ sym (append-assoc l v (replicate (n - length (l ++ v)) 0))
-
 -- One more card in hand.
 pub held-more : (ks fs f : List ℕ) (n : ℕ) → length ks < 20 → length f ≤ 66 → withCard (held ks fs) n f ≡ held (ks ++ n ∷ []) (fs ++ filled f)
 held-more ks fs f n k w =
     let used : length fs + 66 ≡ length (fs ++ filled f) = omega (arith, length-append fs (filled f), length-filled f w) in
     let count : length ks + 1 ≡ length (ks ++ n ∷ []) = omega (arith, length-append ks (n ∷ [])) in
-    rw (splice-padded 1320 fs (filled f), used, padded-snoc 20 ks n k, count) refl
+    rw (padded-append 1320 fs (filled f), used, padded-snoc 20 ks n k, count) refl
 
 -- ---- the cards in form
-
-refuse-got : {A : Type 0} (b : Bool) (a : Answer) (r : Outcome A) (p : A) → refuse b a r ≡ Got p → r ≡ Got p
-refuse-got true a r p e = let z : _≡_ {A = ℕ} 0 1 = cc in absurd (omega arith)
-refuse-got false a r p e = e
 
 faults-got : (a b c d : Bool) (n : ℕ) (r : Outcome Open) (p : Open) → refuse a (BadByte n) (refuse b (TooWide n) (refuse c (BadStart n) (refuse d (BadNumber n) r))) ≡ Got p → r ≡ Got p
 faults-got a b c d n r p e =
@@ -255,9 +229,6 @@ open-now : (n : ℕ) (o q : Open) (k : Kind) → k ≡ Opening → opened n k o 
 unfolding opened
 open-now n o q k e g = sym g ∙ rw e refl
 
-got-one : (p q : Open) → _≡_ {A = Outcome Open} (Got p) (Got q) → p ≡ q
-got-one p q e = ap (λ (r : Outcome Open). elim r [ Got x ↦ x | Refused a ↦ Shut ]) e
-
 pub begun : (text : List ℕ) (at n i k end : ℕ) (none stmt : Stmt) (part : List ℕ) → AtOpening text at n i k → i < length text → end ≡ i + lineLength (drop i text) → part ≡ partOfField (take (end - i) (drop i text)) → none ≡ held [] [] → stmt ≡ withCard none k part → Taking text at n stmt (end + 1) (k + 1)
 begun text at n i k end none stmt part a h e q o s =
     let c : List ℕ = take (end - i) (drop i text) in
@@ -265,7 +236,7 @@ begun text at n i k end none stmt part a h e q o s =
     let long : lineLength (drop i text) ≡ end - i = omega arith in
     let opener : kindOf c ≡ Opening = ap (λ (j : ℕ). kindOf (take j (drop i text))) (sym long) ∙ a .opener h in
     let w = walk-next k c cs (a .formed .before) (a .formed .behind) (subst (λ (x : List (List ℕ)). walk cardInForm k x (a .formed .before) ≡ Got (a .formed .behind)) (cards-next text i end h e) (a .formed .walked)) in
-    let shut : w .0 ≡ Continued 0 = got-one (w .0) (Continued 0) (open-now k (a .formed .before) (w .0) (kindOf c) opener (w .1)) in
+    let shut : w .0 ≡ Continued 0 = got-eq (open-now k (a .formed .before) (w .0) (kindOf c) opener (w .1)) in
     record {
       inHand = record { card = k; further = []; field = fieldOf c };
       is = s ∙ ap (λ (x : Stmt). withCard x k part) o ∙ ap (withCard (held [] []) k) q ∙ held-more [] [] (partOfField c) k (omega arith) (part-short c) ∙ ap (held (k ∷ [])) (field-filled c);
@@ -276,10 +247,6 @@ begun text at n i k end none stmt part a h e q o s =
       onward = omega (arith, a .onward);
       near = omega (arith, a .near);
     }
-
-refuse-not : {A : Type 0} (b : Bool) (a : Answer) (r : Outcome A) (p : A) → refuse b a r ≡ Got p → b ≡ false
-refuse-not true a r p e = let z : _≡_ {A = ℕ} 0 1 = cc in absurd (omega arith)
-refuse-not false a r p e = refl
 
 -- A continuation in form is the nineteenth at most.
 few-on : (n j : ℕ) (q : Open) → opened n Continuing (Continued j) ≡ Got q → j + 1 ≤ 19
@@ -293,13 +260,13 @@ kept-open false o e = refl
 -- The open statement and the one in hand have the same continuations.
 state-on : (n : ℕ) (c : List ℕ) (s : Statement) (k : Kind) (q : Open) → (closes k || opens k) ≡ false → opened n k (Continued (length (s .further))) ≡ Got q → q ≡ Continued (length (goneOn k n c s .further))
 unfolding opened
-state-on n c s Comment q o e = sym (got-one _ q e) ∙ kept-open (closes Comment) (Continued (length (s .further))) o
-state-on n c s Empty q o e = sym (got-one _ q e) ∙ kept-open (closes Empty) (Continued (length (s .further))) o
+state-on n c s Comment q o e = sym (got-eq e) ∙ kept-open (closes Comment) (Continued (length (s .further))) o
+state-on n c s Empty q o e = sym (got-eq e) ∙ kept-open (closes Empty) (Continued (length (s .further))) o
 state-on n c s Opening q o e = let z : _≡_ {A = ℕ} 0 1 = cc in absurd (omega arith)
 state-on n c s Continuing q o e =
     let j : ℕ = length (s .further) in
     let more : j + 1 ≡ length (s .further ++ n ∷ []) = omega (arith, length-append (s .further) (n ∷ [])) in
-    sym (got-one (Continued (j + 1)) q (refuse-got (ltb continuations (j + 1)) (TooManyCards n) (Got (Continued (j + 1))) q e)) ∙ ap Continued more
+    sym (got-eq (refuse-got (ltb continuations (j + 1)) (TooManyCards n) (Got (Continued (j + 1))) q e)) ∙ ap Continued more
 
 held-on : (n : ℕ) (c : List ℕ) (s : Statement) (k : Kind) → (k ≡ Continuing → length (s .further) + 1 ≤ 19) → foldedIn (stmtOf s) k n c ≡ stmtOf (goneOn k n c s)
 held-on n c s Comment h = refl

@@ -9,7 +9,7 @@ use Rattle.decks.specs.Answers.{Got}
 use Rattle.decks.specs.Readings.{walk}
 use Rattle.cards.specs.Card.{cardsOf, blank, fieldStart, fieldEnd, fieldColumns, Kind, Comment, Empty, Opening, Continuing, kindOf, Open, cardInForm}
 use Rattle.cards.specs.Statement.{Statement, Nothing, gathered}
-use Rattle.firstpass.specs.Passed.{lineLength}
+use Rattle.ends.specs.Ends.{lineLength}
 use Rattle.statements.specs.declared.Stmt.{Stmt}
 use Rattle.statements.specs.declared.Taken.{Taken}
 

@@ -7,8 +7,8 @@ ghost use lib.ListN.{length, drop};
 ghost use Rattle.cards.specs.Card.{cardsOf, fieldColumns, closes, Continuing};
 ghost use Rattle.firstpass.specs.Passed.{kindIs};
 ghost use Rattle.statements.specs.Hold.{held, Room, withCard, foldedIn, opens, Formed, AtOpening, Takes};
+use ends::line_end;
 use firstpass::CardKind;
-use firstpass::card_end;
 use firstpass::closes;
 use firstpass::column;
 use firstpass::field;
@@ -142,7 +142,7 @@ fn opening(text: &[u8], at: usize, n: u64) -> Place
     let mut i = at;
     let mut k = n;
     while i < text.len() {
-        let end = card_end(text, i);
+        let end = line_end(text, i);
         let kind = kind_of(&text[i..end]);
         if opens(kind) {
             return Place { at: i, n: k };
@@ -169,12 +169,12 @@ pub fn next_statement(text: &[u8], at: usize, n: u64) -> Taken
             n: number,
         };
     }
-    let stop = card_end(text, start);
+    let stop = line_end(text, start);
     let mut stmt = with_card(nothing(), number, field(&text[start..stop]));
     let mut i = stop + 1;
     let mut k = number + 1;
     while i < text.len() {
-        let end = card_end(text, i);
+        let end = line_end(text, i);
         let kind = kind_of(&text[i..end]);
         if ends(kind) {
             return Taken {

@@ -8,20 +8,14 @@ use native.Mathlib.Numerals.{add-one}
 use native.Mathlib.Decide.{decLt}
 use borrow.Author.Tests.{lt-ltb, le-ltb}
 use lib.Dec.{ltb}
-use lib.ListN.{length, take, drop, getD, drop-of-length-le}
-use lib.Seq.{take-nil, drop-cons}
+use lib.ListN.{length, drop, getD, drop-of-length-le}
+use lib.Seq.{drop-cons}
 use lib.Bits.{or-zero-l, or-zero-r}
+use Rattle.lists.proofs.Laws.{part-next, part-off, part-done}
 use Rattle.sets.specs.Sets.{only, union, width}
-use Rattle.sets.proofs.Laws.{ext, bit-union, only-mod, only-mod-high}
-use Rattle.terms.specs.Nodes.{constant?, placesOf, temporal?, spans, part, variableOf, variablesOf, someTemporal}
-
--- general:
-pub union-assoc : (s t u : ℕ) → union s (union t u) ≡ union (union s t) u
-union-assoc s t u =
-    ext
-    (union s (union t u))
-    (union (union s t) u)
-    (λ i. omega (arith, bit-union s (union t u) i, bit-union t u i, bit-union (union s t) u i, bit-union s t i))
+use Rattle.sets.proofs.Laws.{union-assoc, only-mod, only-mod-high}
+use Rattle.terms.specs.Nodes.{constant?, placesOf, temporal?, spans, variableOf, variablesOf, someTemporal}
+use Rattle.lists.specs.Lists.{part}
 
 -- ---- how many operands a node has
 
@@ -100,20 +94,6 @@ module _ (c : ℕ) where
   pub places-until : 258 ≤ c → 259 ≤ c → 261 ≤ c → 264 ≤ c → 2 ≡ placesOf c
   unfolding placesOf
   places-until l m n h = simp (le-ltb c 258 l, le-ltb c 259 m, le-ltb c 261 n, le-ltb c 264 h, placesOf)
-
--- ---- part of the nodes
-
-module _ (cs : List ℕ) (i j : ℕ) where
-  pub part-next : i < j → i < length cs → part i j cs ≡ getD cs i 0 ∷ part (i + 1) j cs
-  part-next h l =
-      let e : j - i ≡ suc (j - (i + 1)) = omega arith in
-      ap₂ (λ (n : ℕ) (r : List ℕ). take n r) e (next-node cs i l)
-
-  pub part-off : length cs ≤ i → part i j cs ≡ []
-  part-off h = ap (λ (r : List ℕ). take (j - i) r) (drop-of-length-le cs h) ∙ take-nil (j - i)
-
-  pub part-done : j ≤ i → part i j cs ≡ []
-  part-done h = let e : j - i ≡ 0 = omega arith in ap (λ (n : ℕ). take n (drop i cs)) e
 
 -- ---- variables written
 

@@ -1,6 +1,6 @@
 -- What the passes over nodes give where the nodes are the code of an expression.
 use mathlib.Core.Path.{_≡_, refl, sym, ap, ap₂, _∙_}
-use mathlib.Core.Bool.{Bool, true, false, not, _&&_, _||_, false≢true}
+use mathlib.Core.Bool.{Bool, true, false, _||_}
 use mathlib.Core.List.{List, [], _∷_, _++_, append-assoc}
 use Prim.Native.Nat.{ℕ, suc, _+_, _-_, _<_, _≤_}
 use native.Mathlib.Omega.{arith}
@@ -9,10 +9,12 @@ use lib.ListN.{length, take, drop, getD, length-append, length-drop}
 use lib.Seq.{take-at, drop-at, drop-drop, getD-drop}
 use lib.Bits.{or-zero-l, or-zero-r}
 use Rattle.sets.specs.Sets.{union}
-use Rattle.logic.specs.Expressions.{Expr, Const, Var, One, Two, Op1, Op2, Not, Next, Future, Always, And, Or, Until, Weak, nodes, written, Plain, constNode, node1, node2, code}
-use Rattle.logic.proofs.Codes.{Below, Narrow, code-unique, length-code, nodes-some}
-use Rattle.terms.specs.Nodes.{placesOf, temporal?, spans, part, variableOf, variablesOf, someTemporal, plain?, Stands}
-use Rattle.terms.proofs.Laws.{union-assoc, spans-none, variable-low, variable-high}
+use Rattle.logic.specs.Expressions.{Expr, Const, Var, One, Two, Op1, Op2, Not, Next, Future, Always, And, Or, Until, Weak, nodes, written, temporal, constNode, node1, node2, code, Below, Narrow}
+use Rattle.logic.proofs.Codes.{code-unique, length-code, nodes-some}
+use Rattle.terms.specs.Nodes.{placesOf, temporal?, spans, variableOf, variablesOf, someTemporal, Stands}
+use Rattle.lists.specs.Lists.{part}
+use Rattle.terms.proofs.Laws.{spans-none, variable-low, variable-high}
+use Rattle.sets.proofs.Laws.{union-assoc}
 
 -- ---- how many operands a node has
 
@@ -149,51 +151,21 @@ stands-written cs i e h s = ap variablesOf (part-code cs i e s) ∙ variables-co
 -- ---- the operators X F G U W
 
 -- general:
-both : (p q : Bool) → p && q ≡ true → (p ≡ true) × (q ≡ true)
-both true q h = (refl, h)
-both false q h = absurd (false≢true h)
-
 or-assoc : (p q r : Bool) → p || (q || r) ≡ (p || q) || r
 or-assoc true q r = refl
 or-assoc false q r = refl
 
-not-and : (p q : Bool) → not p || not q ≡ not (p && q)
-not-and true q = refl
-not-and false q = refl
-
-pub plain-true : (e : Expr) → Plain e → plain? e ≡ true
-unfolding Plain plain?
-plain-true (Const b) h = refl
-plain-true (Var v) h = refl
-plain-true (One Not e) h = plain-true e h
-plain-true (One Next e) h = absurd h
-plain-true (One Future e) h = absurd h
-plain-true (One Always e) h = absurd h
-plain-true (Two And a b) h = rw (plain-true a (h .0)) (plain-true b (h .1))
-plain-true (Two Or a b) h = rw (plain-true a (h .0)) (plain-true b (h .1))
-plain-true (Two Until a b) h = absurd h
-plain-true (Two Weak a b) h = absurd h
-
-pub true-plain : (e : Expr) → plain? e ≡ true → Plain e
-unfolding Plain plain?
-true-plain (Const b) h = tt
-true-plain (Var v) h = tt
-true-plain (One Not e) h = true-plain e h
-true-plain (One Next e) h = absurd (false≢true h)
-true-plain (One Future e) h = absurd (false≢true h)
-true-plain (One Always e) h = absurd (false≢true h)
-true-plain (Two And a b) h = let p : (plain? a ≡ true) × (plain? b ≡ true) = both (plain? a) (plain? b) h in (true-plain a (p .0), true-plain b (p .1))
-true-plain (Two Or a b) h = let p : (plain? a ≡ true) × (plain? b ≡ true) = both (plain? a) (plain? b) h in (true-plain a (p .0), true-plain b (p .1))
-true-plain (Two Until a b) h = absurd (false≢true h)
-true-plain (Two Weak a b) h = absurd (false≢true h)
+or-else : (p q : Bool) → p || q ≡ elim p [ true ↦ true | false ↦ q ]
+or-else true q = refl
+or-else false q = refl
 
 temporal-append : (s t : List ℕ) → someTemporal (s ++ t) ≡ someTemporal s || someTemporal t
 unfolding someTemporal
 temporal-append [] t = refl
 temporal-append (c ∷ cs) t = ap (λ (b : Bool). temporal? c || b) (temporal-append cs t) ∙ or-assoc (temporal? c) (someTemporal cs) (someTemporal t)
 
-pub temporal-code : (e : Expr) → Narrow e → someTemporal (code e) ≡ not (plain? e)
-unfolding someTemporal code plain?
+pub temporal-code : (e : Expr) → Narrow e → someTemporal (code e) ≡ temporal e
+unfolding someTemporal code temporal
 temporal-code (Const false) h = refl
 temporal-code (Const true) h = refl
 temporal-code (Var v) h = ap (λ (b : Bool). b || false) (lt-leb _ v (omega arith))
@@ -201,10 +173,10 @@ temporal-code (One Not e) h = temporal-code e h
 temporal-code (One Next e) h = refl
 temporal-code (One Future e) h = refl
 temporal-code (One Always e) h = refl
-temporal-code (Two And a b) h = temporal-append (code a) (code b) ∙ rw (temporal-code a (h .0), temporal-code b (h .1)) (not-and (plain? a) (plain? b))
-temporal-code (Two Or a b) h = temporal-append (code a) (code b) ∙ rw (temporal-code a (h .0), temporal-code b (h .1)) (not-and (plain? a) (plain? b))
+temporal-code (Two And a b) h = temporal-append (code a) (code b) ∙ rw (temporal-code a (h .0), temporal-code b (h .1)) (or-else (temporal a) (temporal b))
+temporal-code (Two Or a b) h = temporal-append (code a) (code b) ∙ rw (temporal-code a (h .0), temporal-code b (h .1)) (or-else (temporal a) (temporal b))
 temporal-code (Two Until a b) h = refl
 temporal-code (Two Weak a b) h = refl
 
-pub stands-temporal : (cs : List ℕ) (i : ℕ) (e : Expr) → Stands cs i e → someTemporal (part i (i + nodes e) cs) ≡ not (plain? e)
+pub stands-temporal : (cs : List ℕ) (i : ℕ) (e : Expr) → Stands cs i e → someTemporal (part i (i + nodes e) cs) ≡ temporal e
 stands-temporal cs i e s = ap someTemporal (part-code cs i e s) ∙ temporal-code e (s .0)

@@ -1,13 +1,12 @@
 -- Expressions in memory: nodes in prefix order, in a list that may go on behind them.
 use mathlib.Core.Path.{_≡_}
-use mathlib.Core.Bool.{Bool, true, false, _&&_, _||_}
+use mathlib.Core.Bool.{Bool, true, false, _||_}
 use mathlib.Core.List.{List, [], _∷_, _++_}
-use Prim.Native.Nat.{ℕ, zero, suc, _+_, _-_}
+use Prim.Native.Nat.{ℕ, zero, suc, _+_}
 use lib.Dec.{ltb, leb}
-use lib.ListN.{take, drop}
+use lib.ListN.{drop}
 use Rattle.sets.specs.Sets.{only, union, width}
-use Rattle.logic.specs.Expressions.{Expr, Const, Var, One, Two, Not, Next, Future, Always, And, Or, Until, Weak, constNode, node1, node2, code}
-use Rattle.logic.proofs.Codes.{Narrow}
+use Rattle.logic.specs.Expressions.{Expr, Not, Next, And, Until, Narrow, constNode, node1, node2, code}
 
 -- Whether the node is a variable.
 abbrev pub variable? : ℕ → Bool
@@ -38,10 +37,6 @@ spans n [] = 0
 spans zero (c ∷ cs) = 0
 spans (suc n) (c ∷ cs) = suc (spans (n + placesOf c) cs)
 
--- The nodes from place i up to but without place j.
-abbrev pub part : ℕ → ℕ → List ℕ → List ℕ
-part i j cs = take (j - i) (drop i cs)
-
 -- The set of the variable that the node is; nothing of any other node, nor of a variable for which a word has no room.
 unfoldable pub variableOf : ℕ → ℕ
 variableOf c = elim (ltb c width) [ true ↦ only c | false ↦ 0 ]
@@ -55,19 +50,6 @@ variablesOf (c ∷ cs) = union (variableOf c) (variablesOf cs)
 unfoldable pub someTemporal : List ℕ → Bool
 someTemporal [] = false
 someTemporal (c ∷ cs) = temporal? c || someTemporal cs
-
--- Whether of the operators only `~ & +` are used.
-unfoldable pub plain? : Expr → Bool
-plain? (Const b) = true
-plain? (Var v) = true
-plain? (One Not e) = plain? e
-plain? (One Next e) = false
-plain? (One Future e) = false
-plain? (One Always e) = false
-plain? (Two And a b) = plain? a && plain? b
-plain? (Two Or a b) = plain? a && plain? b
-plain? (Two Until a b) = false
-plain? (Two Weak a b) = false
 
 -- The code of e stands in the nodes from place i on.
 abbrev pub Stands : List ℕ → ℕ → Expr → Type 0

@@ -6,7 +6,8 @@ ghost use Prim.Native.Nat.{_+_, _<_, max};
 ghost use lib.Dec.{eqb};
 ghost use lib.ListN.{length, drop};
 ghost use Rattle.logic.specs.Expressions.{Expr, levels as depth};
-ghost use Rattle.terms.specs.Nodes.{variable?, constant?, placesOf, temporal?, spans, part, variablesOf, someTemporal, Stands};
+ghost use Rattle.terms.specs.Nodes.{variable?, constant?, placesOf, temporal?, spans, variablesOf, someTemporal, Stands};
+ghost use Rattle.lists.specs.Lists.{part};
 ghost use Rattle.terms.specs.Reaches.{Reaches};
 
 // A node below this number is the variable of that number.

@@ -2,13 +2,13 @@
 use mathlib.Core.Path.{_≡_, refl, sym, ap, _∙_, subst}
 use mathlib.Core.Bool.{true}
 use mathlib.Core.List.{List, [], _∷_, _++_, append-assoc}
-use Prim.Native.Nat.{ℕ, zero, suc, _+_, _-_, _*_, _<_, _≤_}
+use Prim.Native.Nat.{ℕ, _+_, _-_, _*_, _<_, _≤_}
 use native.Mathlib.Omega.{arith}
 use borrow.Author.Tests.{lt-ltb, le-ltb}
 use lib.ListN.{length, take, replicate, length-append, length-take, length-drop}
 use borrow.Rule.Slice.PartMut.{midOf, putMid}
-use Rattle.lists.specs.Lists.{Each, keep, padded, splice}
-use Rattle.lists.proofs.Laws.{each-append, each-map, keep-all, take-padded, length-splice, splice-rest, part-rest}
+use Rattle.lists.specs.Lists.{Each, keep, padded, splice, part}
+use Rattle.lists.proofs.Laws.{each-replicate, each-append, each-map, keep-all, take-padded, length-splice, splice-rest, part-rest, length-part}
 use Rattle.sets.specs.Sets.{has, _⊆_}
 use Rattle.sets.proofs.Laws.{has-true}
 use Rattle.logic.specs.Expressions.{Expr, code}
@@ -25,8 +25,8 @@ use Rattle.frames.specs.Written.{claimKind, stateKind, claimCountKind, claimFra
 use Rattle.frames.proofs.HexLaws.{length-pairs, pairs-four}
 use Rattle.frames.proofs.ExprLaws.{length-node-pairs}
 use Rattle.frames.proofs.SizeLaws.{length-state-frames, length-equation-frames, length-deck-frames, length-claim-frames}
-use Rattle.writing.specs.Parts.{part, Nodes}
-use Rattle.writing.proofs.Laws.{splice-behind, three-parts, length-part}
+use Rattle.writing.specs.Parts.{Nodes}
+use Rattle.writing.proofs.Laws.{splice-behind, three-parts}
 use Rattle.texts.specs.declared.Written.{Written}
 use Rattle.equations.proofs.Laws.{count-is-equations}
 use Rattle.texts.specs.Texts.{Lent, deckOf, framesOf, Filled, filled, claimOf}
@@ -41,13 +41,13 @@ head-frames vars inits initials r out₀ x y er ex ey =
     (omega (arith, length-append (pairs setBytes vars) (10 ∷ []), length-pairs setBytes vars)) ey
 
 pub tail-frames : (property : List ℕ) (from to frames r : ℕ) (out₀ x y z : List ℕ) → to ≤ length property → x ≡ splice 0 (pair 4) out₀ → r ≡ 2 * (to - from) + 1
-    → y ≡ splice 0 (nodePairs (part property from to) ++ (10 ∷ [])) (midOf 2 (length x - 2) x)
+    → y ≡ splice 0 (nodePairs (part from to property) ++ (10 ∷ [])) (midOf 2 (length x - 2) x)
     → z ≡ splice 0 (frame 5 (pairs 2 frames)) (midOf (r + 2) (length (putMid 2 (length x - 2) x y) - (r + 2)) (putMid 2 (length x - 2) x y))
     → putMid (r + 2) (length (putMid 2 (length x - 2) x y) - (r + 2)) (putMid 2 (length x - 2) x y) z
-    ≡ splice 0 (frame propertyKind (nodePairs (part property from to)) ++ frame countKind (pairs 2 frames)) out₀
+    ≡ splice 0 (frame propertyKind (nodePairs (part from to property)) ++ frame countKind (pairs 2 frames)) out₀
 tail-frames property from to frames r out₀ x y z h ex er ey ez =
-    three-parts 2 (r + 2) (pair 4) (nodePairs (part property from to) ++ (10 ∷ [])) (frame 5 (pairs 2 frames)) out₀ x y z ex refl ey
-    (omega (arith, er, length-append (nodePairs (part property from to)) (10 ∷ []), length-node-pairs (part property from to), length-part property from to h)) ez
+    three-parts 2 (r + 2) (pair 4) (nodePairs (part from to property) ++ (10 ∷ [])) (frame 5 (pairs 2 frames)) out₀ x y z ex refl ey
+    (omega (arith, er, length-append (nodePairs (part from to property)) (10 ∷ []), length-node-pairs (part from to property), length-part property from to h)) ez
 
 -- ---- decks in lent arrays
 
@@ -127,7 +127,7 @@ module _ (vars : ℕ) (qs : List Equation) (e : Expr) (inits : List ℕ) (initia
       → x ≡ splice 0 (frame setKind (pairs setBytes vars) ++ stateFrames initKind (take initials inits)) out₀
       → EquationsPut vars lefts ends nodes equations m (midOf h (length x - h) x) y
       → n ≡ length (keep (has vars) (take equations lefts))
-      → z ≡ splice 0 (frame propertyKind (nodePairs (part property from to)) ++ frame countKind (pairs 2 (initials + n + 2)))
+      → z ≡ splice 0 (frame propertyKind (nodePairs (part from to property)) ++ frame countKind (pairs 2 (initials + n + 2)))
       (midOf (h + m) (length (putMid h (length x - h) x y) - (h + m)) (putMid h (length x - h) x y))
       → putMid (h + m) (length (putMid h (length x - h) x y) - (h + m)) (putMid h (length x - h) x y) z ≡ splice 0 (framesOf vars inits initials qs e) out₀
   unfolding deckFrames
@@ -148,11 +148,11 @@ module _ (vars : ℕ) (qs : List Equation) (e : Expr) (inits : List ℕ) (initia
         length-take initials inits,
         l .initials-in,
       ) in
-      three-parts h (h + m) (set ++ states) mids (last (part property from to) (initials + n + 2)) out₀ x y z ex head (o qs (l .holds-equations) .1)
+      three-parts h (h + m) (set ++ states) mids (last (part from to property) (initials + n + 2)) out₀ x y z ex head (o qs (l .holds-equations) .1)
       (omega (arith, head, o qs (l .holds-equations) .0)) ez
       ∙ ap (λ (t : List ℕ). splice 0 t out₀)
-      (append-assoc set states (mids ++ last (part property from to) (initials + n + 2))
-      ∙ ap (λ (k : ℕ). set ++ (states ++ (mids ++ last (part property from to) k))) count
+      (append-assoc set states (mids ++ last (part from to property) (initials + n + 2))
+      ∙ ap (λ (k : ℕ). set ++ (states ++ (mids ++ last (part from to property) k))) count
       ∙ ap (λ (ns : List ℕ). set ++ (states ++ (mids ++ last ns (length (take initials inits) + length (equationsOf vars qs) + 2)))) (l .holds-property))
 
 -- ---- texts into buffers
@@ -211,11 +211,6 @@ module _ (p c : ℕ) (states : List ℕ) (s : Sized base (claimOf p c states)) w
   claim-counted r e = e ∙ claim-bytes
 
 -- ---- decks as they are stored
-
--- general:
-each-replicate : (P : ℕ → Type 0) (n x : ℕ) → P x → Each P (replicate n x)
-each-replicate P zero x p = tt
-each-replicate P (suc n) x p = (p, each-replicate P n x p)
 
 nodes-padded : (n : ℕ) (ns : List ℕ) → Nodes ns → Nodes (padded n ns)
 nodes-padded n ns ps = each-append (λ (x : ℕ). x < 266) ns (replicate (n - length ns) 0) ps (each-replicate (λ (x : ℕ). x < 266) (n - length ns) 0 (omega arith))

@@ -5,7 +5,7 @@ use mathlib.Core.List.{List}
 use Prim.Native.Nat.{ℕ, _≤_, _+_}
 use lib.Dec.{ltb}
 use lib.ListN.{length, take}
-use Rattle.lists.specs.Lists.{splice}
+use Rattle.lists.specs.Lists.{splice, part}
 use Rattle.logic.specs.Expressions.{Expr, code}
 use Rattle.logic.specs.Decks.{Equation, Deck, base}
 use Rattle.logic.specs.Pieces.{equationsOf}
@@ -13,7 +13,7 @@ use Rattle.logic.specs.Meaning.{Claim}
 use Rattle.decks.specs.declared.Answer.the-variants.{Fine, NoRoom}
 use Rattle.decks.specs.Stored.{HoldsEquations}
 use Rattle.frames.specs.Written.{deckFrames, claimFrames}
-use Rattle.writing.specs.Parts.{part, Nodes}
+use Rattle.writing.specs.Parts.{Nodes}
 use Rattle.texts.specs.declared.Written.{Written}
 
 -- ---- decks in lent arrays
@@ -21,7 +21,7 @@ use Rattle.texts.specs.declared.Written.{Written}
 -- The arrays hold the equations qs, and the property e as the nodes from..to; the counts are in range.
 pub record Lent (qs : List Equation) (e : Expr) (inits : List ℕ) (initials : ℕ) (lefts ends nodes : List ℕ) (equations : ℕ) (property : List ℕ) (from to : ℕ) : Type 0 where
   pub holds-equations : HoldsEquations qs lefts ends nodes equations
-  pub holds-property : part property from to ≡ code e
+  pub holds-property : part from to property ≡ code e
   pub nodes-in : Nodes nodes
   pub property-in : Nodes property
   pub initials-in : initials ≤ length inits

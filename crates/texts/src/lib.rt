@@ -1,16 +1,16 @@
 // Decks, pieces and claims written as texts of frames.
 ghost use mathlib.Core.Path.{_≡_};
 ghost use mathlib.Core.List.{List, _++_};
-ghost use Prim.Native.Nat.{ℕ, _+_, _-_, _*_, _≤_};
+ghost use Prim.Native.Nat.{_+_, _-_, _*_, _≤_};
 ghost use lib.ListN.{length, take};
-ghost use Rattle.lists.specs.Lists.{splice};
+ghost use Rattle.lists.specs.Lists.{splice, part};
 ghost use Rattle.logic.specs.Expressions.{Expr};
 ghost use Rattle.logic.specs.Decks.{Equation, Deck, Accepted, base};
 ghost use Rattle.logic.specs.Meaning.{Sized};
 ghost use Rattle.decks.specs.Stored.{stored};
 ghost use Rattle.frames.specs.Hex.{pairs};
 ghost use Rattle.frames.specs.Written.{setBytes, setKind, initKind, propertyKind, countKind, nodePairs, frame, stateFrames, claimFrames};
-ghost use Rattle.writing.specs.Parts.{part, Nodes};
+ghost use Rattle.writing.specs.Parts.{Nodes};
 ghost use Rattle.texts.specs.Texts.{Lent, framesOf, deckWritten, claimWritten, claimOf};
 
 // What a writer answers, and how many bytes it wrote.
@@ -32,7 +32,7 @@ pub fn put_head(out: &mut [u8], vars: u64, inits: &[u64], initials: usize) -> us
 // 04 and 05, and their length.
 pub fn put_tail(out: &mut [u8], property: &[u16], from: usize, to: usize, frames: usize) -> usize
     requires { ⌜ (from ≤ to) × (to ≤ length (now property)) × Nodes (now property) × (2 * (to - from) + 10 ≤ length (now out)) ⌝ }
-    ensures { λ r. ⌜ (r ≡ 2 * (to - from) + 10) × (now (out .exit) ≡ splice 0 (frame propertyKind (nodePairs (part (now (property .entry)) from to)) ++ frame countKind (pairs 2 frames)) (now (out .entry))) ⌝ }
+    ensures { λ r. ⌜ (r ≡ 2 * (to - from) + 10) × (now (out .exit) ≡ splice 0 (frame propertyKind (nodePairs (part from to (now (property .entry)))) ++ frame countKind (pairs 2 frames)) (now (out .entry))) ⌝ }
 {
     writing::put_byte(out, 4);
     let n = writing::put_line(&mut out[2..], property, from, to);

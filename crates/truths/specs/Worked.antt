@@ -3,11 +3,10 @@ use mathlib.Core.Path.{_≡_}
 use mathlib.Core.List.{List}
 use Prim.Native.Nat.{ℕ, _+_, _-_, _<_, _≤_}
 use lib.ListN.{length}
-use Rattle.logic.specs.Expressions.{Expr, Const, Var, One, Two, Op1, Op2, node1, node2, levels}
+use Rattle.logic.specs.Expressions.{Expr, Const, Var, One, Two, Op1, Op2, node1, node2, levels, Narrow}
 use Rattle.logic.specs.Decks.{Limits}
 use Rattle.logic.specs.Meaning.{Claim, Sized}
 use Rattle.logic.specs.Verdicts.{truth}
-use Rattle.logic.proofs.Codes.{Narrow}
 use Rattle.terms.specs.Nodes.{Stands}
 use Rattle.terms.proofs.Trees.{headNode}
 use Rattle.evaluator.specs.Pending.{pushed, All, Below}

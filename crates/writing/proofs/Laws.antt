@@ -4,18 +4,17 @@ use mathlib.Core.List.{List, [], _∷_, _++_, append-assoc, append-nil}
 use Prim.Native.Nat.{ℕ, zero, suc, _+_, _-_, _*_, _/_, _%_, _^_, _<_, _≤_}
 use native.Mathlib.Omega.{arith}
 use native.Mathlib.Nat.{mod-eq-of-lt}
-use lib.ListN.{length, take, drop, getD, set, length-append, length-take, length-drop}
-use lib.Seq.{drop-cons}
+use lib.ListN.{length, take, getD, set, length-append}
 use lib.Pow.{pow-add}
 use borrow.Rule.Slice.PartMut.{midOf, putMid}
 use borrow.Author.Tests.{lt-ltb, le-ltb}
-use Rattle.lists.specs.Lists.{splice}
-use Rattle.lists.proofs.Laws.{splice-nothing, splice-splice, splice-rest}
+use Rattle.lists.specs.Lists.{splice, part}
+use Rattle.lists.proofs.Laws.{splice-nothing, splice-splice, splice-rest, part-next, part-done, length-part}
 use Rattle.frames.specs.Hex.{hexDigit, pair, pairs}
 use Rattle.frames.specs.Written.{codeByte, nodePairs, frame, stateFrames}
 use Rattle.frames.proofs.HexLaws.{length-pairs}
 use Rattle.frames.proofs.ExprLaws.{length-node-pairs}
-use Rattle.writing.specs.Parts.{part, Nodes}
+use Rattle.writing.specs.Parts.{Nodes}
 
 -- ---- one part written behind the other
 
@@ -64,22 +63,6 @@ module _ (whole rest : List ℕ) (used : ℕ) (out₀ out : List ℕ) where
 
   pub all-wrote : Wrote whole rest used out₀ out → rest ≡ [] → out ≡ splice 0 whole out₀
   all-wrote w e = w .out-is ∙ ap (λ (l : List ℕ). splice 0 l out₀) (sym (w .whole-is ∙ ap (λ (l : List ℕ). w .front ++ l) e ∙ append-nil (w .front)))
-
--- ---- general: a part of a list, place by place
-
-pub part-next : (l : List ℕ) (i to : ℕ) → i < to → to ≤ length l → part l i to ≡ getD l i 0 ∷ part l (i + 1) to
-part-next l i to h k =
-    let e : to - i ≡ suc (to - (i + 1)) = omega arith in
-    let f : suc i ≡ i + 1 = omega arith in
-    ap (λ (m : List ℕ). take (to - i) m) (drop-cons l i 0 (omega arith))
-    ∙ ap (λ (j : ℕ). take j (getD l i 0 ∷ drop (suc i) l)) e
-    ∙ ap (λ (j : ℕ). getD l i 0 ∷ take (to - (i + 1)) (drop j l)) f
-
-pub part-none : (l : List ℕ) (i to : ℕ) → to ≤ i → part l i to ≡ []
-part-none l i to h = let e : to - i ≡ 0 = omega arith in ap (λ (j : ℕ). take j (drop i l)) e
-
-pub length-part : (l : List ℕ) (i to : ℕ) → to ≤ length l → length (part l i to) ≡ to - i
-length-part l i to h = omega (arith, length-take (to - i) (drop i l), length-drop i l)
 
 -- ---- bytes
 
@@ -135,7 +118,7 @@ number-frame kind k n out₀ x y z ex ey ez = three-parts 2 (2 * k + 2) (pair ki
 
 -- What is written of the first states of a row before state i.
 abbrev pub StatesTo : ℕ → List ℕ → ℕ → ℕ → ℕ → List ℕ → List ℕ → Type 0
-StatesTo kind states count i used out₀ out = Wrote (stateFrames kind (part states 0 count)) (stateFrames kind (part states i count)) used out₀ out
+StatesTo kind states count i used out₀ out = Wrote (stateFrames kind (part 0 count states)) (stateFrames kind (part i count states)) used out₀ out
 
 pub states-next : (kind : ℕ) (states : List ℕ) (count i used r : ℕ) (out₀ out ys : List ℕ) → i < count → count ≤ length states → StatesTo kind states count i used out₀ out
     → r ≡ 2 * 8 + 3 → ys ≡ splice 0 (frame kind (pairs 8 (getD states i 0))) (midOf used (length out - used) out)
@@ -143,16 +126,16 @@ pub states-next : (kind : ℕ) (states : List ℕ) (count i used r : ℕ) (out�
 unfolding stateFrames
 states-next kind states count i used r out₀ out ys h k w e f =
     let one : List ℕ = frame kind (pairs 8 (getD states i 0)) in
-    let rest : List ℕ = stateFrames kind (part states (i + 1) count) in
+    let rest : List ℕ = stateFrames kind (part (i + 1) count states) in
     let long : length one ≡ r = omega (arith, length-append (pairs 8 (getD states i 0)) (10 ∷ []), length-pairs 8 (getD states i 0)) in
-    rw (← long) (wrote-part (stateFrames kind (part states 0 count)) rest used out₀ out one ys (rw (part-next states i count h k) at w) f)
+    rw (← long) (wrote-part (stateFrames kind (part 0 count states)) rest used out₀ out one ys (rw (part-next states i count h (omega arith)) at w) f)
 
 pub states-done : (kind : ℕ) (states : List ℕ) (count i used : ℕ) (out₀ out : List ℕ) → count ≤ i → StatesTo kind states count i used out₀ out
     → out ≡ splice 0 (stateFrames kind (take count states)) out₀
 unfolding stateFrames
 states-done kind states count i used out₀ out h w =
     let e : count - 0 ≡ count = omega arith in
-    all-wrote _ _ used out₀ out w (ap (stateFrames kind) (part-none states i count h)) ∙ ap (λ (j : ℕ). splice 0 (stateFrames kind (take j states)) out₀) e
+    all-wrote _ _ used out₀ out w (ap (stateFrames kind) (part-done states i count h)) ∙ ap (λ (j : ℕ). splice 0 (stateFrames kind (take j states)) out₀) e
 
 -- ---- nodes
 
@@ -166,30 +149,30 @@ code-high n h k = let e : (n - 192) % 256 ≡ n - 256 + 64 = omega arith in e �
 
 -- What is written of the nodes from..to before node i.
 abbrev pub NodesTo : List ℕ → ℕ → ℕ → ℕ → ℕ → List ℕ → List ℕ → Type 0
-NodesTo nodes from to i used out₀ out = Wrote (nodePairs (part nodes from to)) (nodePairs (part nodes i to)) used out₀ out
+NodesTo nodes from to i used out₀ out = Wrote (nodePairs (part from to nodes)) (nodePairs (part i to nodes)) used out₀ out
 
-pub codes-first : (nodes : List ℕ) (i to : ℕ) → i < to → to ≤ length nodes → Nodes (part nodes i to) → getD nodes i 0 < 266
-codes-first nodes i to h k ps = (rw (part-next nodes i to h k) at ps) .0
+pub codes-first : (nodes : List ℕ) (i to : ℕ) → i < to → to ≤ length nodes → Nodes (part i to nodes) → getD nodes i 0 < 266
+codes-first nodes i to h k ps = (rw (part-next nodes i to h (omega arith)) at ps) .0
 
-pub codes-next : (nodes : List ℕ) (i to : ℕ) → i < to → to ≤ length nodes → Nodes (part nodes i to) → Nodes (part nodes (i + 1) to)
-codes-next nodes i to h k ps = (rw (part-next nodes i to h k) at ps) .1
+pub codes-next : (nodes : List ℕ) (i to : ℕ) → i < to → to ≤ length nodes → Nodes (part i to nodes) → Nodes (part (i + 1) to nodes)
+codes-next nodes i to h k ps = (rw (part-next nodes i to h (omega arith)) at ps) .1
 
 pub nodes-next : (nodes : List ℕ) (from to i used b : ℕ) (out₀ out ys : List ℕ) → i < to → to ≤ length nodes → NodesTo nodes from to i used out₀ out
     → b ≡ codeByte (getD nodes i 0) → ys ≡ splice 0 (pair b) (midOf used (length out - used) out)
     → NodesTo nodes from to (i + 1) (used + 2) out₀ (putMid used (length out - used) out ys)
 unfolding nodePairs
 nodes-next nodes from to i used b out₀ out ys h k w e f =
-    wrote-part (nodePairs (part nodes from to)) (nodePairs (part nodes (i + 1) to)) used out₀ out (pair b) ys
-    (rw (part-next nodes i to h k, ← e) at w) f
+    wrote-part (nodePairs (part from to nodes)) (nodePairs (part (i + 1) to nodes)) used out₀ out (pair b) ys
+    (rw (part-next nodes i to h (omega arith), ← e) at w) f
 
 pub nodes-done : (nodes : List ℕ) (from to i used : ℕ) (out₀ out : List ℕ) → to ≤ i → NodesTo nodes from to i used out₀ out
-    → out ≡ splice 0 (nodePairs (part nodes from to)) out₀
+    → out ≡ splice 0 (nodePairs (part from to nodes)) out₀
 unfolding nodePairs
-nodes-done nodes from to i used out₀ out h w = all-wrote _ _ used out₀ out w (ap nodePairs (part-none nodes i to h))
+nodes-done nodes from to i used out₀ out h w = all-wrote _ _ used out₀ out w (ap nodePairs (part-done nodes i to h))
 
-pub nodes-line : (nodes : List ℕ) (from to : ℕ) (out₀ x y : List ℕ) → to ≤ length nodes → x ≡ splice 0 (nodePairs (part nodes from to)) out₀
+pub nodes-line : (nodes : List ℕ) (from to : ℕ) (out₀ x y : List ℕ) → to ≤ length nodes → x ≡ splice 0 (nodePairs (part from to nodes)) out₀
     → y ≡ splice 0 (10 ∷ []) (midOf (2 * (to - from)) (length x - 2 * (to - from)) x)
-    → putMid (2 * (to - from)) (length x - 2 * (to - from)) x y ≡ splice 0 (nodePairs (part nodes from to) ++ (10 ∷ [])) out₀
+    → putMid (2 * (to - from)) (length x - 2 * (to - from)) x y ≡ splice 0 (nodePairs (part from to nodes) ++ (10 ∷ [])) out₀
 nodes-line nodes from to out₀ x y h ex ey =
-    splice-behind (2 * (to - from)) (nodePairs (part nodes from to)) (10 ∷ []) out₀ x y ex
-    (omega (arith, length-node-pairs (part nodes from to), length-part nodes from to h)) ey
+    splice-behind (2 * (to - from)) (nodePairs (part from to nodes)) (10 ∷ []) out₀ x y ex
+    (omega (arith, length-node-pairs (part from to nodes), length-part nodes from to h)) ey

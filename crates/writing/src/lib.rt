@@ -1,12 +1,12 @@
 // Decks and claims written as frames.
 ghost use mathlib.Core.Path.{_≡_};
-ghost use mathlib.Core.List.{List, [], _∷_, _++_};
-ghost use Prim.Native.Nat.{ℕ, _+_, _-_, _*_, _/_, _%_, _^_, _<_, _≤_};
+ghost use mathlib.Core.List.{[], _∷_, _++_};
+ghost use Prim.Native.Nat.{_+_, _-_, _*_, _/_, _%_, _^_, _<_, _≤_};
 ghost use lib.ListN.{length, take, getD};
-ghost use Rattle.lists.specs.Lists.{splice};
+ghost use Rattle.lists.specs.Lists.{splice, part};
 ghost use Rattle.frames.specs.Hex.{hexDigit, pair, pairs};
 ghost use Rattle.frames.specs.Written.{codeByte, nodePairs, frame, stateFrames};
-ghost use Rattle.writing.specs.Parts.{part, Nodes};
+ghost use Rattle.writing.specs.Parts.{Nodes};
 
 // The character of a number below 16.
 fn digit(n: u8) -> u8
@@ -101,8 +101,8 @@ fn code_at(nodes: &[u16], i: usize) -> u8
 
 // The pairs of the nodes from..to.
 pub fn put_nodes(out: &mut [u8], nodes: &[u16], from: usize, to: usize)
-    requires { ⌜ (from ≤ to) × (to ≤ length (now nodes)) × (2 * (to - from) ≤ length (now out)) × Nodes (part (now nodes) from to) ⌝ }
-    ensures { λ _. ⌜ now (out .exit) ≡ splice 0 (nodePairs (part (now (nodes .entry)) from to)) (now (out .entry)) ⌝ }
+    requires { ⌜ (from ≤ to) × (to ≤ length (now nodes)) × (2 * (to - from) ≤ length (now out)) × Nodes (part from to (now nodes)) ⌝ }
+    ensures { λ _. ⌜ now (out .exit) ≡ splice 0 (nodePairs (part from to (now (nodes .entry)))) (now (out .entry)) ⌝ }
 {
     let mut i = from;
     let mut used = 0;
@@ -116,8 +116,8 @@ pub fn put_nodes(out: &mut [u8], nodes: &[u16], from: usize, to: usize)
 
 // The pairs of the nodes from..to and the end of their line, and the length of that.
 pub fn put_line(out: &mut [u8], nodes: &[u16], from: usize, to: usize) -> usize
-    requires { ⌜ (from ≤ to) × (to ≤ length (now nodes)) × (2 * (to - from) + 1 ≤ length (now out)) × Nodes (part (now nodes) from to) ⌝ }
-    ensures { λ r. ⌜ (r ≡ 2 * (to - from) + 1) × (now (out .exit) ≡ splice 0 (nodePairs (part (now (nodes .entry)) from to) ++ (10 ∷ [])) (now (out .entry))) ⌝ }
+    requires { ⌜ (from ≤ to) × (to ≤ length (now nodes)) × (2 * (to - from) + 1 ≤ length (now out)) × Nodes (part from to (now nodes)) ⌝ }
+    ensures { λ r. ⌜ (r ≡ 2 * (to - from) + 1) × (now (out .exit) ≡ splice 0 (nodePairs (part from to (now (nodes .entry))) ++ (10 ∷ [])) (now (out .entry))) ⌝ }
 {
     put_nodes(out, nodes, from, to);
     let at = 2 * (to - from);

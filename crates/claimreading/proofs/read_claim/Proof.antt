@@ -1,9 +1,8 @@
 use lib.ListN.{length}
-use Prim.Native.Nat.{ℕ, _+_, _-_, _≤_}
+use Prim.Native.Nat.{_+_, _-_, _≤_}
 use mathlib.Core.Path.{_≡_}
 use Rattle.claimreading.proofs.Laws as laws
 use borrow.Author.Needs.{needs}
-use native.Mathlib.Omega.{arith}
 use Rattle.claimreading.proofs.read_claim.Statement.{statement}
 use Rattle.claimreading.proofs.read_claim.Tie as tie
 use Rattle.claimreading.proofs.read_claim.Reads as reads
@@ -11,7 +10,7 @@ use Rattle.claimreading.proofs.read_claim.Lts as lts
 use Rattle.claimreading.proofs.claim_line.Reads as claim-line-reads
 use Rattle.claimreading.proofs.nothing.Reads as nothing-reads
 use Rattle.claimreading.proofs.refused.Reads as refused-reads
-use Rattle.lines.proofs.line_end.Reads as line-end-reads
+use Rattle.ends.proofs.line_end.Reads as line-end-reads
 
 abbrev Inv-loop : tie.InvT-loop
 Inv-loop text vars states₀ held₀ at₀ n₀ states held at n = (at ≤ length text) × (1 ≤ n) × (n ≤ at + 1) × (length text ≤ 64800) × (length states ≡ 1024) × (held .p + held .c ≤ 1024) × laws.Reached text vars states held at n

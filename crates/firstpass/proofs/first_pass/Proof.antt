@@ -18,8 +18,8 @@ abbrev μ-loop : tie.MeasureT-loop
 loop-holds : tie.Need-loop-holds Inv-loop μ-loop
 loop-holds c = search needs
 
-card-end-requires : tie.Need-card-end-requires Inv-loop μ-loop
-card-end-requires c κs = search needs
+line-end-requires : tie.Need-line-end-requires Inv-loop μ-loop
+line-end-requires c κs = search needs
 
 sub-card-fault : tie.Need-sub-card-fault Inv-loop μ-loop
 sub-card-fault c = search needs
@@ -64,7 +64,7 @@ first-pass-spec =
     Inv-loop
     μ-loop
     loop-holds
-    card-end-requires
+    line-end-requires
     sub-card-fault
     part-card-fault-start
     part-card-fault-end

@@ -20,8 +20,8 @@ nothing-requires c κs = search needs
 returns : tie.Need-returns Inv-loop μ-loop
 returns c = search (needs, laws.none-taken)
 
-card-end-requires : tie.Need-card-end-requires Inv-loop μ-loop
-card-end-requires c κs = search needs
+line-end-requires : tie.Need-line-end-requires Inv-loop μ-loop
+line-end-requires c κs = search needs
 
 nothing-requires-2 : tie.Need-nothing-requires-2 Inv-loop μ-loop
 nothing-requires-2 c κs = search needs
@@ -50,8 +50,8 @@ add-k c = search needs
 loop-holds : tie.Need-loop-holds Inv-loop μ-loop
 loop-holds c = search (needs, laws.begun)
 
-card-end-requires-2 : tie.Need-card-end-requires-2 Inv-loop μ-loop
-card-end-requires-2 c κs = search needs
+line-end-requires-2 : tie.Need-line-end-requires-2 Inv-loop μ-loop
+line-end-requires-2 c κs = search needs
 
 sub-kind-of : tie.Need-sub-kind-of Inv-loop μ-loop
 sub-kind-of c = search needs
@@ -107,7 +107,7 @@ next-statement-spec =
     opening-requires
     nothing-requires
     returns
-    card-end-requires
+    line-end-requires
     nothing-requires-2
     sub-field
     part-field-start
@@ -117,7 +117,7 @@ next-statement-spec =
     add-i
     add-k
     loop-holds
-    card-end-requires-2
+    line-end-requires-2
     sub-kind-of
     part-kind-of-start
     part-kind-of-end

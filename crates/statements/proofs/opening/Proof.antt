@@ -18,8 +18,8 @@ abbrev μ-loop : tie.MeasureT-loop
 loop-holds : tie.Need-loop-holds Inv-loop μ-loop
 loop-holds c = search needs
 
-card-end-requires : tie.Need-card-end-requires Inv-loop μ-loop
-card-end-requires c κs = search needs
+line-end-requires : tie.Need-line-end-requires Inv-loop μ-loop
+line-end-requires c κs = search needs
 
 sub-kind-of : tie.Need-sub-kind-of Inv-loop μ-loop
 sub-kind-of c = search needs
@@ -61,7 +61,7 @@ opening-spec =
     Inv-loop
     μ-loop
     loop-holds
-    card-end-requires
+    line-end-requires
     sub-kind-of
     part-kind-of-start
     part-kind-of-end

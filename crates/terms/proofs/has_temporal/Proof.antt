@@ -1,7 +1,8 @@
 use native.Mathlib.Omega.{arith}
 use Prim.Native.Nat.{_-_, _≤_}
 use mathlib.Core.Path.{_≡_}
-use Rattle.terms.specs.Nodes.{part, someTemporal}
+use Rattle.terms.specs.Nodes.{someTemporal}
+use Rattle.lists.specs.Lists.{part}
 use Rattle.terms.proofs.Laws as laws
 use borrow.Author.Needs.{needs}
 use Rattle.terms.proofs.has_temporal.Statement.{statement}

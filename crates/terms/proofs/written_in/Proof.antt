@@ -1,7 +1,8 @@
 use native.Mathlib.Omega.{arith}
 use Prim.Native.Nat.{_-_, _≤_}
 use mathlib.Core.Path.{_≡_}
-use Rattle.terms.specs.Nodes.{part, variablesOf}
+use Rattle.terms.specs.Nodes.{variablesOf}
+use Rattle.lists.specs.Lists.{part}
 use Rattle.sets.specs.Sets.{union}
 use Rattle.terms.proofs.Laws as laws
 use borrow.Author.Needs.{needs}

@@ -1,4 +1,5 @@
-use Rattle.writing.specs.Parts.{part, Nodes}
+use Rattle.writing.specs.Parts.{Nodes}
+use Rattle.lists.specs.Lists.{part}
 use mathlib.Core.Path.{_≡_}
 use lib.ListN.{length}
 use Prim.Native.Nat.{_-_, _*_, _≤_}
@@ -12,7 +13,7 @@ use Rattle.writing.proofs.code_at.Reads as code-at-reads
 use Rattle.writing.proofs.put_byte.Reads as put-byte-reads
 
 abbrev Inv-loop : tie.InvT-loop
-Inv-loop out₀ nodes from to i₀ used₀ out i used = (from ≤ i) × (i ≤ to) × (used ≡ 2 * (i - from)) × (length out ≡ length out₀) × Nodes (part nodes i to) × laws.NodesTo nodes from to i used out₀ out
+Inv-loop out₀ nodes from to i₀ used₀ out i used = (from ≤ i) × (i ≤ to) × (used ≡ 2 * (i - from)) × (length out ≡ length out₀) × Nodes (part i to nodes) × laws.NodesTo nodes from to i used out₀ out
 
 abbrev μ-loop : tie.MeasureT-loop
 μ-loop out₀ nodes from to i₀ used₀ out i used = to - i

@@ -1,21 +1,21 @@
 -- The left sides of a deck's equations: the test of 15 says that every variable has an equation, and names the lowest without one.
 use mathlib.Core.Path.{_≡_, refl, sym, ap, _∙_, subst}
 use mathlib.Core.Logic.{inl, inr, ⊎-elim, by-cases}
-use mathlib.Core.List.{List, [], _∷_}
+use mathlib.Core.List.{List, [], _∷_, _++_}
 use Prim.Native.Nat.{ℕ, _^_, _<_}
 use native.Mathlib.Omega.{arith}
 use native.Mathlib.Decide.{ℕ-discrete}
 use borrow.Author.Tests.{eq-eqb, ne-eqb}
 use lib.Count.{trailingZeros}
 use Rattle.lists.specs.Lists.{Some}
-use Rattle.sets.specs.Sets.{_∋_, only, without, Lowest}
-use Rattle.sets.proofs.Laws.{bit-zero, bit-union, bit-or-zero, bit-only, only-bit, union-left, union-right, member-dec, subset-without, without-subset, without-left, without-out, without-in, without-lt, trailing-lowest, lowest-unique}
+use Rattle.sets.specs.Sets.{_∋_, only, union, without, Lowest}
+use Rattle.sets.proofs.Laws.{bit-zero, union-assoc, union-nothing, bit-union, bit-or-zero, bit-only, only-bit, union-left, union-right, member-dec, subset-without, without-subset, without-left, without-out, without-in, without-lt, trailing-lowest, lowest-unique}
 use Rattle.logic.specs.Decks.{Equation, Deck, base}
 use Rattle.decks.specs.declared.Answer.{Answer}
 use Rattle.decks.specs.declared.Answer.the-variants.{NoEquation}
 use Rattle.decks.specs.Answers.{Outcome, Got, Refused}
-use Rattle.frames.specs.Read.{leftSet, complete}
-use Rattle.frames.proofs.LineLaws.{refused-got}
+use Rattle.decks.specs.Readings.{leftSet, complete}
+use Rattle.decks.proofs.Outcomes.{refused-got}
 
 -- v has an equation.
 abbrev pub HasEquation : List Equation → ℕ → Type 0
@@ -38,6 +38,12 @@ member-left-set (q ∷ qs) v m =
     (λ z. inr (member-left-set qs v (omega (arith, bit-union (only (q .left)) (leftSet qs) v, z, m))))
     (λ o. inl (sym (only-bit (q .left) v o)))
     (bit-or-zero (only (q .left)) v)
+
+-- One equation more.
+pub left-more : (q : Equation) (qs : List Equation) → leftSet (qs ++ (q ∷ [])) ≡ union (leftSet qs) (only (q .left))
+unfolding leftSet
+left-more q [] = union-nothing (only (q .left))
+left-more q (x ∷ xs) = ap (union (only (x .left))) (left-more q xs) ∙ union-assoc (only (x .left)) (leftSet xs) (only (q .left))
 
 -- The variables without an equation.
 abbrev pub lacking : Deck → ℕ
