@@ -8,13 +8,13 @@ use mir.Val.{Fits}
 use mir.Syntax.{w64}
 use lib.ListN.{length, take, drop, getD, set, length-append, length-take, length-drop}
 use lib.Seq.{take-at, drop-at, take-all}
-use Rattle.lists.specs.Lists.{splice}
+use Rattle.lists.specs.Lists.{splice, part}
 use Rattle.lists.proofs.Laws.{set-splice, splice-splice, length-splice}
-use Rattle.logic.specs.Expressions.{Expr, Const, Var, One, Two, Not, Next, Future, Always, And, Or, Until, Weak, nodes, constNode}
+use Rattle.logic.specs.Expressions.{Expr, Const, Var, One, Two, Not, Next, Future, Always, And, Or, Until, Weak, nodes, constNode, Narrow}
 use Rattle.logic.specs.Expressions as Expressions
 use Rattle.logic.specs.Pieces.{split}
-use Rattle.logic.proofs.Codes.{Narrow, nodes-some, length-code}
-use Rattle.terms.specs.Nodes.{part, spans, Stands}
+use Rattle.logic.proofs.Codes.{nodes-some, length-code}
+use Rattle.terms.specs.Nodes.{spans, Stands}
 use Rattle.terms.proofs.Laws.{spans-none}
 use Rattle.terms.proofs.Trees.{spans-code, stands-within, stands-first, stands-second, part-code}
 use Rattle.conjuncts.specs.Conjuncts.{whole, bounds, Coded, Bounded}

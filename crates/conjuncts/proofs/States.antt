@@ -8,12 +8,10 @@ use native.Mathlib.Numerals.{add-one}
 use borrow.Author.Tests.{eq-eqb, ne-eqb}
 use lib.ListN.{length, take, drop, getD, set}
 use lib.Seq.{take-suc, take-suc-set}
-use Rattle.lists.specs.Lists.{stands, firsts, _among_}
-use Rattle.lists.proofs.Laws.{true-stands, false-stands, stands-firsts, firsts-new, firsts-again}
+use Rattle.lists.specs.Lists.{stands, firsts, _among_, part}
+use Rattle.lists.proofs.Laws.{true-stands, false-stands, stands-firsts, firsts-new, firsts-again, part-next, part-done}
 use Rattle.sets.specs.Sets.{meet}
 use Rattle.logic.specs.Pieces.{projected}
-use Rattle.terms.specs.Nodes.{part}
-use Rattle.terms.proofs.Laws.{part-next, part-done}
 
 -- ---- whether a state stands in the first places of a row
 

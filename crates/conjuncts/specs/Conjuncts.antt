@@ -3,10 +3,9 @@ use mathlib.Core.Path.{_≡_}
 use mathlib.Core.List.{List, [], _∷_, _++_}
 use Prim.Native.Nat.{ℕ, _+_, _<_, _≤_}
 use lib.ListN.{length}
-use Rattle.logic.specs.Expressions.{Expr, Const, Var, One, Two, And, Or, Until, Weak, nodes}
+use Rattle.logic.specs.Expressions.{Expr, Const, Var, One, Two, And, Or, Until, Weak, nodes, Narrow}
 use Rattle.logic.specs.Expressions as Expressions
-use Rattle.logic.proofs.Codes.{Narrow}
-use Rattle.terms.specs.Nodes.{part}
+use Rattle.lists.specs.Lists.{part}
 
 -- The place where the expression's code begins and the place behind it.
 abbrev pub whole : ℕ → Expr → List ℕ

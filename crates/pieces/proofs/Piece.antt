@@ -4,13 +4,13 @@ use mathlib.Core.List.{List, [], _∷_}
 use Prim.Native.Nat.{ℕ, zero, suc, _+_, _≤_}
 use native.Mathlib.Omega.{arith}
 use lib.ListN.{length, take}
-use Rattle.lists.specs.Lists.{splice}
+use Rattle.lists.specs.Lists.{splice, part}
 use Rattle.logic.specs.Expressions.{Expr, written}
 use Rattle.logic.specs.Decks.{Equation, Deck, base}
 use Rattle.logic.specs.Cones.{cone}
 use Rattle.logic.specs.Pieces.{coneOf, projected, piece}
 use Rattle.logic.proofs.Codes.{written-below}
-use Rattle.terms.specs.Nodes.{part, variablesOf}
+use Rattle.terms.specs.Nodes.{variablesOf}
 use Rattle.terms.proofs.Trees.{variables-code}
 use Rattle.cones.specs.Dependencies.{rows, table}
 use Rattle.frames.specs.Written.{deckFrames}

@@ -8,11 +8,11 @@ use borrow.Author.Tests.{lt-ltb, le-ltb}
 use lib.ListN.{length, take, replicate}
 use Rattle.lists.specs.Lists.{padded, splice}
 use Rattle.lists.proofs.Laws.{take-padded, length-padded, length-splice}
-use Rattle.logic.specs.Expressions.{Expr, code}
+use Rattle.logic.specs.Expressions.{Expr, code, Narrow}
 use Rattle.logic.specs.Expressions as Expressions
 use Rattle.logic.specs.Decks.{Equation, Deck, Accepted, base}
 use Rattle.logic.specs.Pieces.{split, piece, pieces}
-use Rattle.logic.proofs.Codes.{Narrow, written-narrow, length-code}
+use Rattle.logic.proofs.Codes.{written-narrow, length-code}
 use Rattle.decks.specs.declared.Deck.{Deck as Stored}
 use Rattle.decks.specs.declared.Answer.the-variants.{Fine, NoRoom}
 use Rattle.decks.specs.Stored.{stored}

@@ -9,7 +9,8 @@ use Rattle.logic.specs.Decks.{Deck, Accepted, base}
 use Rattle.logic.specs.Pieces.{split}
 use Rattle.decks.specs.Stored.{HoldsEquations}
 use Rattle.cones.specs.Dependencies.{table}
-use Rattle.writing.specs.Parts.{part, Nodes}
+use Rattle.writing.specs.Parts.{Nodes}
+use Rattle.lists.specs.Lists.{part}
 use Rattle.conjuncts.specs.Conjuncts.{Bounded}
 
 -- The arrays hold the accepted deck D, and the table is the one of its equations.
@@ -31,7 +32,7 @@ pub record Placed (D : Deck) (e : Expr) (deps inits : List ℕ) (initials : ℕ)
   pub inside : written e ⊆ D .vars
   pub from-to : from ≤ to
   pub to-in : to ≤ length property
-  pub is-code : part property from to ≡ code e
+  pub is-code : part from to property ≡ code e
 
 -- Beside it the row bounds the codes of the property's conjuncts, and this is their number.
 pub record Bound (D : Deck) (deps inits : List ℕ) (initials : ℕ) (lefts ends nodes : List ℕ) (equations : ℕ) (property bounds : List ℕ) (count : ℕ) : Type 0 where

@@ -20,12 +20,15 @@ use Rattle.decks.specs.declared.DeckRead.{DeckRead}
 use Rattle.decks.specs.declared.Deck.{Deck as Stored}
 use Rattle.decks.specs.Answers.{Outcome, Got, Refused, refuse, afterwards}
 use Rattle.decks.specs.Stored.{leftsOf, endsOf, codes, HoldsEquations, blank, deckRead}
-use Rattle.cones.proofs.Equations.{length-codes}
+use Rattle.decks.proofs.Stored.{length-codes}
 use Rattle.frames.specs.Hex.{byteOf}
-use Rattle.frames.specs.Read.{Due, DueSet, DueInit, DueAny, DueEquation, DueCount, DueNone, Sofar, begun, kindOf, wholeNumber, wholeExpr, walk, setLine, initLine, lastLeft, withEquation, equationLine, propertyLine, countLine, permits, frameLine, deckLine, leftSet, complete, deckEnd, readDeck}
-use Rattle.frames.proofs.LineLaws.{Given, refuse-given, afterwards-given}
-use Rattle.lines.specs.Steps.{lineLength, countIs}
-use Rattle.lines.proofs.Laws.{count-line, pair-inside, ended-at, unended-at, ended-last, unended-last}
+use Rattle.frames.specs.Read.{Due, DueSet, DueInit, DueAny, DueEquation, DueCount, DueNone, Sofar, begun, kindOf, wholeNumber, wholeExpr, setLine, initLine, lastLeft, withEquation, equationLine, propertyLine, countLine, permits, frameLine, deckLine, deckEnd, readDeck}
+use Rattle.decks.specs.Readings.{walk, leftSet, complete}
+use Rattle.decks.proofs.Outcomes.{Given, refuse-given, afterwards-given}
+use Rattle.lines.specs.Steps.{countIs}
+use Rattle.ends.specs.Ends.{lineLength}
+use Rattle.lines.proofs.Laws.{count-line, pair-inside}
+use Rattle.ends.proofs.Laws.{ended-at, unended-at, ended-last, unended-last}
 use Rattle.decklines.specs.declared.Held.{Held}
 use Rattle.decklines.specs.declared.LineRead.{LineRead}
 use Rattle.decklines.specs.Held.{dueNumber, sizeOf, propertyOf, heldOf, lineOf, InitCame, PropertyCame, EquationCame}

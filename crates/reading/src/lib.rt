@@ -143,7 +143,7 @@ pub fn read_deck(text: &[u8]) -> decks::DeckRead
     let mut at = 0;
     let mut n = 1u64;
     while at < text.len() {
-        let end = lines::line_end(text, at);
+        let end = ends::line_end(text, at);
         if end == text.len() {
             return refused(decks::Answer::BadFrame(DECK_TEXT, 0));
         }

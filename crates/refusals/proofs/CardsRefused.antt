@@ -22,7 +22,7 @@ use Rattle.cards.specs.Typed.{Typed, firstVars, deckOf}
 use Rattle.cards.specs.Read.{Due, DueVars, DueInit, DueAny, DueEquation, DueEnd, DueNone, Sofar, begun, statementRead, cardsEnd, readCards}
 use Rattle.cards.proofs.TypedLaws.{ofVariable, member-first-vars, first-vars-most}
 use Rattle.cards.proofs.NothingDropped.{equations-as-typed}
-use Rattle.frames.proofs.LeftLaws.{HasEquation}
+use Rattle.decks.proofs.Complete.{HasEquation}
 use Rattle.refusals.specs.Order.{Conditions, Done, Try, FirstOf, NoneOf, followed, oneByOne, backwards, rising}
 use Rattle.refusals.specs.CardFaults.{cardFaults}
 use Rattle.refusals.specs.StatementFaults.{Item, Count, Initial, Equals, Property, Ending, SpellsItem, added, Typing, Behind, statementFaults}

@@ -19,10 +19,11 @@ use Rattle.decks.specs.declared.Answer.the-variants.{TooLong, BadFrame, Outside
 use Rattle.decks.specs.Answers.{Outcome, Got, Refused, refuse, afterwards}
 use Rattle.frames.specs.Hex.{pair, pairs, number}
 use Rattle.frames.specs.Written.{setBytes, claimKind, stateKind, claimCountKind}
-use Rattle.frames.specs.Read.{walk as walkLines, wholeNumber, kindOf, countLine, ClaimSofar, ClaimDue, StatesDue, ClaimWhole, sizesLine, stateLine, claimLine, claimEnd, readClaim}
+use Rattle.frames.specs.Read.{wholeNumber, kindOf, countLine, ClaimSofar, ClaimDue, StatesDue, ClaimWhole, sizesLine, stateLine, claimLine, claimEnd, readClaim}
+use Rattle.decks.specs.Readings.{walk as walkLines}
 use Rattle.frames.proofs.HexLaws.{pairs-four}
-use Rattle.frames.proofs.LineLaws.{refused-got, kind-line, line-kind, whole-number-pairs, whole-number-got}
-use Rattle.cards.proofs.Outcomes.{got-eq}
+use Rattle.frames.proofs.LineLaws.{kind-line, line-kind, whole-number-pairs, whole-number-got}
+use Rattle.decks.proofs.Outcomes.{refused-got, got-eq}
 use Rattle.refusals.specs.Order.{Conditions, Done, Try, FirstOf, NoneOf, followed, oneByOne, backwards}
 use Rattle.refusals.specs.ClaimFaults.{ClaimFrame, Sizes, State, Closing, Holds, added, UsesOutside, Framing, Behind, claimFaults, ClaimEndsEarly, claimOrder}
 use Rattle.refusals.proofs.OrderLaws.{Meets, meets-is, meets-here, meets-past, meets-test, meets-got, meets-keeps, meets-afterwards, alike-meets, meets-walk}

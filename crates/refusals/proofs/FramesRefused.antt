@@ -16,13 +16,12 @@ use Rattle.logic.specs.Decks.{Equation, Deck, base, totalNodes}
 use Rattle.decks.specs.declared.Answer.{Answer}
 use Rattle.decks.specs.declared.Answer.the-variants.{TooLong, BadFrame, Outside, Temporal, TooDeep, ManyInitials, ManyEquations, ManyNodes, NoEquation}
 use Rattle.decks.specs.Answers.{Outcome, Got, Refused, refuse, afterwards}
-use Rattle.decks.specs.Readings.{walk}
+use Rattle.decks.specs.Readings.{walk, walk as walkLines, complete}
 use Rattle.frames.specs.Written.{setBytes}
-use Rattle.frames.specs.Read.{walk as walkLines, Due, DueSet, DueInit, DueAny, DueEquation, DueCount, DueNone, Sofar, begun, withEquation, deckLine, complete, deckEnd, readDeck}
-use Rattle.frames.proofs.LineLaws.{refused-got}
-use Rattle.frames.proofs.DeckLaws.{plain-temporal, temporal-plain}
-use Rattle.frames.proofs.LeftLaws.{HasEquation}
-use Rattle.cards.proofs.Outcomes.{got-eq}
+use Rattle.frames.specs.Read.{Due, DueSet, DueInit, DueAny, DueEquation, DueCount, DueNone, Sofar, begun, withEquation, deckLine, deckEnd, readDeck}
+use Rattle.decks.proofs.Outcomes.{refused-got, got-eq}
+use Rattle.logic.proofs.Rights.{plain-temporal, temporal-plain}
+use Rattle.decks.proofs.Complete.{HasEquation}
 use Rattle.refusals.specs.Order.{Conditions, Done, Try, FirstOf, NoneOf, followed, oneByOne, backwards, rising}
 use Rattle.refusals.specs.FrameFaults.{Frame, SetFrame, InitFrame, EquationFrame, PropertyFrame, CountFrame, WritesFrame, Holds, DeepLine, NoFrame, UsesOutside, NotPlain, InitialOver, EquationOver, NodesOver, frameFaults, added, Framing, Behind, Holding, lineFaults}
 use Rattle.refusals.specs.FramesOrder.{EndsEarly, Lacking, framesOrder}

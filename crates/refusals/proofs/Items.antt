@@ -11,9 +11,8 @@ use lib.ListN.{length}
 use borrow.Author.Tests.{ltb-true, ltb-false}
 use Rattle.lists.specs.Texts.{bytes}
 use Rattle.sets.specs.Sets.{inside}
-use Rattle.logic.specs.Expressions.{Expr, nodes, levels, written, decimal, spelling}
+use Rattle.logic.specs.Expressions.{Expr, nodes, levels, written, decimal, spelling, Below}
 use Rattle.logic.specs.Decks.{Equation, base}
-use Rattle.logic.proofs.Codes.{Below}
 use Rattle.logic.proofs.Spelling.{NoDigit}
 use Rattle.decks.specs.declared.Answer.{Answer}
 use Rattle.decks.specs.declared.Answer.the-variants.{NotDue, TooDeep, Outside, ManyInitials, ManyNodes}
@@ -22,7 +21,7 @@ use Rattle.decks.specs.Answers.{Outcome, Got, Refused, refuse, afterwards}
 use Rattle.cards.specs.Grammar.{Counted, Number, NoNumber, readNumber, readExpr}
 use Rattle.cards.specs.Typed.{Typed, binaryFrom, initSpelt, equationSpelt, firstVars}
 use Rattle.cards.specs.Read.{behind, Due, DueVars, DueInit, DueAny, DueEquation, DueEnd, DueNone, Sofar, wholeExpr, wholeNumber, varsStatement, readBinary, initStatement, withEquation, equationStatement, propStatement, endStatement, equationOrProp, dueStatement}
-use Rattle.cards.proofs.Outcomes.{refused-got, got-eq}
+use Rattle.decks.proofs.Outcomes.{refused-got, got-eq}
 use Rattle.cards.proofs.GrammarLaws.{decimal-read, read-decimal}
 use Rattle.cards.proofs.WordLaws.{none-some, some-eq, word-behind, behind-word, whole-number-spelt, whole-number-got, whole-expr-spelt, whole-expr-got, binary-read, read-binary}
 use Rattle.cards.proofs.ExactlyWhen.{TooFar, too-deep-exactly, wrong-exactly}

@@ -14,9 +14,8 @@ use Rattle.logic.specs.Decks.{Equation, Deck, base}
 use Rattle.decks.specs.declared.Answer.{Answer}
 use Rattle.decks.specs.declared.Answer.the-variants.{NoEquation}
 use Rattle.decks.specs.Answers.{Outcome, Got, Refused}
-use Rattle.decks.specs.Readings.{leftSet, complete}
-use Rattle.frames.specs.Read.{leftSet as frameLeftSet, complete as frameComplete}
-use Rattle.frames.proofs.LeftLaws.{HasEquation, AllHave, all-complete, LowestWithout, refused-lowest}
+use Rattle.decks.specs.Readings.{leftSet, complete, leftSet as frameLeftSet, complete as frameComplete}
+use Rattle.decks.proofs.Complete.{HasEquation, AllHave, all-complete, LowestWithout, refused-lowest}
 use Rattle.refusals.specs.Order.{Conditions, FirstOf, NoneOf, rising}
 use Rattle.refusals.proofs.OrderLaws.{Meets, rising-first, rising-none}
 

@@ -10,7 +10,7 @@ use native.Mathlib.Decide.{ℕ-discrete}
 use Rattle.decks.specs.declared.Answer.{Answer}
 use Rattle.decks.specs.Answers.{Outcome, Got, Refused, refuse, afterwards}
 use Rattle.decks.specs.Readings.{walk}
-use Rattle.cards.proofs.Outcomes.{refused-got, got-eq, walk-got, walk-refused}
+use Rattle.decks.proofs.Outcomes.{refused-got, got-eq, walk-got, walk-refused}
 use Rattle.refusals.specs.Order.{Conditions, Done, Try, FirstOf, NoneOf, followed, oneByOne, backwards, rising}
 
 -- The first that holds is one.

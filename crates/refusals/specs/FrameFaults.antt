@@ -6,9 +6,8 @@ use Prim.Native.Nat.{ℕ, zero, suc, _+_, _^_, _<_, _≤_}
 use lib.ListN.{length}
 use Rattle.lists.specs.Lists.{_among_}
 use Rattle.sets.specs.Sets.{_∋_, _⊆_}
-use Rattle.logic.specs.Expressions.{Op1, Op2, Expr, nodes, levels, written, Plain, node1, node2, code}
+use Rattle.logic.specs.Expressions.{Op1, Op2, Expr, nodes, levels, written, Plain, node1, node2, code, Below}
 use Rattle.logic.specs.Decks.{Equation, Deck, base, totalNodes}
-use Rattle.logic.proofs.Codes.{Below}
 use Rattle.decks.specs.declared.Answer.the-variants.{BadFrame, Outside, Temporal, TooDeep, ManyInitials, ManyEquations, ManyNodes}
 use Rattle.frames.specs.Hex.{pair, pairs}
 use Rattle.frames.specs.Written.{setBytes, setKind, initKind, equationKind, propertyKind, countKind, codeByte, nodePairs}

@@ -7,9 +7,8 @@ use lib.ListN.{length}
 use Rattle.lists.specs.Lists.{Some}
 use Rattle.lists.specs.Texts.{bytes}
 use Rattle.sets.specs.Sets.{_⊆_}
-use Rattle.logic.specs.Expressions.{Expr, nodes, levels, written, Plain, decimal, spelling}
+use Rattle.logic.specs.Expressions.{Expr, nodes, levels, written, Plain, decimal, spelling, Below}
 use Rattle.logic.specs.Decks.{Equation, base, totalNodes}
-use Rattle.logic.proofs.Codes.{Below}
 use Rattle.decks.specs.declared.Answer.the-variants.{NotDue, Outside, Temporal, TooDeep, ManyInitials, ManyEquations, ManyNodes}
 use Rattle.cards.specs.Statement.{Statement, inked}
 use Rattle.cards.specs.Typed.{Typed, initSpelt, equationSpelt, firstVars}

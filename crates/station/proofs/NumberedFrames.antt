@@ -18,7 +18,8 @@ use Rattle.decks.specs.declared.Answer.the-variants.{TooLong, Outside, Temporal
 use Rattle.decks.specs.Answers.{Outcome, Got, Refused, replyOf, refuse, afterwards}
 use Rattle.frames.specs.Hex.{byteOf, number}
 use Rattle.frames.specs.Written.{setBytes, setKind, initKind, equationKind, propertyKind, claimKind, stateKind, claimCountKind}
-use Rattle.frames.specs.Read.{Reading, Whole, Wrong, Deep, readExpr, wholeExpr, wholeNumber, kindOf, walk, Due, DueSet, DueInit, DueAny, DueEquation, DueCount, DueNone, Sofar, begun, setLine, initLine, lastLeft, withEquation, equationLine, propertyLine, countLine, permits, frameLine, deckLine, leftSet, complete, deckEnd, readDeck, ClaimSofar, ClaimDue, StatesDue, ClaimWhole, sizesLine, stateLine, claimLine, claimEnd, readClaim}
+use Rattle.frames.specs.Read.{readExpr, wholeExpr, wholeNumber, kindOf, Due, DueSet, DueInit, DueAny, DueEquation, DueCount, DueNone, Sofar, begun, setLine, initLine, lastLeft, withEquation, equationLine, propertyLine, countLine, permits, frameLine, deckLine, deckEnd, readDeck, ClaimSofar, ClaimDue, StatesDue, ClaimWhole, sizesLine, stateLine, claimLine, claimEnd, readClaim}
+use Rattle.decks.specs.Readings.{Reading, Whole, Wrong, Deep, walk, leftSet, complete}
 use Rattle.station.proofs.Numbered.{Numbered, refuse-numbered, afterwards-numbered}
 
 walk-numbered : {S : Type 0} (f : ℕ → List ℕ → S → Outcome S) → ((n : ℕ) (l : List ℕ) (s : S) → Numbered (f n l s)) → (n : ℕ) (ls : List (List ℕ)) (s : S) → Numbered (walk f n ls s)

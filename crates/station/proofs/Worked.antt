@@ -16,10 +16,10 @@ use Rattle.logic.specs.Pieces.{split, piece, pieces}
 use Rattle.logic.specs.Verdicts.{unrolled, truth, taken, allowed, stepsFrom, verdict}
 use Rattle.decks.specs.declared.Reply.{Reply}
 use Rattle.decks.specs.declared.Answer.the-variants.{Fine}
-use Rattle.decks.specs.Readings.{walk, leftSet, complete}
+use Rattle.decks.specs.Readings.{walk, leftSet, complete, walk as lineWalk, leftSet as lefts, complete as completed}
 use Rattle.frames.specs.Hex.{hexDigit, pairs, digitOf, byteOf, numberFrom}
 use Rattle.frames.specs.Written.{codeByte, nodePairs, stateFrames, equationFrames, deckFrames}
-use Rattle.frames.specs.Read.{signOf, readExpr, wholeExpr, wholeNumber, kindOf, walk as lineWalk, setLine, initLine, lastLeft, withEquation, equationLine, propertyLine, countLine, frameLine, deckLine, leftSet as lefts, complete as completed, deckEnd, readDeck, sizesLine, stateLine, claimLine, claimEnd, readClaim}
+use Rattle.frames.specs.Read.{signOf, readExpr, wholeExpr, wholeNumber, kindOf, setLine, initLine, lastLeft, withEquation, equationLine, propertyLine, countLine, frameLine, deckLine, deckEnd, readDeck, sizesLine, stateLine, claimLine, claimEnd, readClaim}
 use Rattle.cards.specs.Card.{columns, every, kindOf as cardKind, opened, cardInForm}
 use Rattle.cards.specs.Statement.{gathered}
 use Rattle.cards.specs.Grammar.{secondDigit, readNumber, signOf as cardSign, jointOf, past, pastJoint, readExpr as cardExpr}

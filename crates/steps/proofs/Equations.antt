@@ -10,15 +10,15 @@ use lib.Seq.{ext-getD}
 use lib.Pow.{pow-pos}
 use lib.Bits.{or-zero-r}
 use Rattle.sets.specs.Sets.{bit, only, union, width}
-use Rattle.sets.proofs.Laws.{only-mod}
+use Rattle.sets.proofs.Laws.{only-mod, union-assoc}
 use Rattle.logic.specs.Expressions.{Expr, Const, Var, One, Two, Not, Next, Future, Always, And, Or, Until, Weak, Plain, value, levels}
 use Rattle.logic.specs.Decks.{Equation, base, totalNodes}
 use Rattle.logic.specs.Meaning.{Claim, stateOf}
 use Rattle.logic.specs.Verdicts.{truth, taken}
 use Rattle.logic.proofs.Verdict.{truth-lt}
 use Rattle.terms.specs.Nodes.{Stands}
-use Rattle.terms.proofs.Laws.{union-assoc}
-use Rattle.cones.proofs.Equations.{equation, each-equation, within, left-is, left-within, end-within, end-is, right-stands, next-equation}
+use Rattle.cones.proofs.Equations.{right-stands}
+use Rattle.decks.proofs.Stored.{equation, each-equation, within, left-is, left-within, end-within, end-is, next-equation}
 use Rattle.evaluator.specs.Pending.{All, tops}
 use Rattle.truths.specs.Worked.{claimOf, truthWord, Worked, Ready, Evaluated}
 use Rattle.truths.proofs.Operators.{all-as, all-then}

@@ -7,10 +7,9 @@ use lib.Dec.{eqb}
 use lib.ListN.{length, getD}
 use Rattle.lists.specs.Lists.{Each}
 use Rattle.sets.specs.Sets.{bit, only, union, inside, width}
-use Rattle.logic.specs.Expressions.{Expr, Plain, value, levels}
+use Rattle.logic.specs.Expressions.{Expr, Plain, value, levels, Narrow}
 use Rattle.logic.specs.Decks.{Equation, base}
 use Rattle.logic.specs.Verdicts.{taken}
-use Rattle.logic.proofs.Codes.{Narrow}
 use Rattle.terms.specs.Nodes.{Stands}
 use Rattle.decks.specs.Stored.{HoldsEquations}
 use Rattle.evaluator.specs.Pending.{All, following, tops}

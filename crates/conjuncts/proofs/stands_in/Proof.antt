@@ -2,8 +2,7 @@ use Prim.Native.Nat.{_-_, _≤_}
 use mathlib.Core.Path.{_≡_}
 use lib.ListN.{take}
 use borrow.Author.Needs.{needs}
-use Rattle.lists.specs.Lists.{stands}
-use Rattle.terms.specs.Nodes.{part}
+use Rattle.lists.specs.Lists.{stands, part}
 use Rattle.conjuncts.proofs.States as laws
 use Rattle.conjuncts.proofs.stands_in.Statement.{statement}
 use Rattle.conjuncts.proofs.stands_in.Tie as tie

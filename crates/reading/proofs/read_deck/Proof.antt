@@ -10,7 +10,7 @@ use Rattle.reading.proofs.read_deck.Tie as tie
 use Rattle.reading.proofs.read_deck.Reads as reads
 use Rattle.reading.proofs.read_deck.Lts as lts
 use Rattle.decklines.proofs.nothing.Reads as nothing-reads
-use Rattle.lines.proofs.line_end.Reads as line-end-reads
+use Rattle.ends.proofs.line_end.Reads as line-end-reads
 use Rattle.reading.proofs.deck_line.Reads as deck-line-reads
 use Rattle.reading.proofs.refused.Reads as refused-reads
 use Rattle.sets.proofs.lowest.Reads as lowest-reads
