@@ -298,3 +298,8 @@ export-done s t r counts e x = subst (λ (u : CountReply). Exported u r counts) 
 
 pub packed-done : (r s : Reply) (n : ℕ) → r ≡ s → n ≡ packed (r .number) (r .text) (r .place) → n ≡ packedReply s
 packed-done r s n e f = f ∙ ap packedReply e
+
+-- Where number and text fit a byte and the place fits six, the word is number + 256 × text + 65,536 × place.
+pub packed-plain : (n t p : ℕ) → n < 256 → t < 256 → p < 281474976710656 → packed n t p ≡ n + 256 * t + 65536 * p
+unfolding packed
+packed-plain n t p a b c = omega arith

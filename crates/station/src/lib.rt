@@ -7,7 +7,9 @@ ghost use Rattle.decks.specs.Answers.{Outcome, Got, replyOf};
 ghost use Rattle.decks.specs.Stored.{stored, deckRead, claimRead};
 ghost use Rattle.claims.specs.Checked.{verdictAnswer, deckChecked, checked as claimAnswer};
 ghost use Rattle.station.specs.Promises.{deckReply, countReply, readReply, writeReply, writeBuffer, reduceReply, reduceBuffer, coneReply, ReadsFrames, WritesFrames, ReducesFrames, FindsCone, ChecksClaim};
+ghost use Rattle.texts.specs.Texts.{filled};
 ghost use Rattle.station.specs.Readable.{Readable};
+ghost use Rattle.station.specs.Printed.{refusalFrame, printedInto};
 ghost use Rattle.station.specs.Exported.{packed, packedReply, Exported};
 ghost use Rattle.frames.specs.Read.{readDeck};
 ghost use lib.ListN.{length};
@@ -243,4 +245,27 @@ pub extern "C" fn micaplume_check<'a>(deck: &'a [u8], claim: &'a [u8]) -> u64
 {
     let r = check(deck, claim);
     packed(r.number, r.text, r.place)
+}
+
+// The frame FF into a buffer that has room for it, and its length.
+fn put_refusal(number: u64, text: u64, place: u64, out: &mut [u8]) -> usize
+    ensures { λ r. ⌜ (r ≡ filled (refusalFrame number text place) (now (out .entry)) .report .bytes) × (now (out .exit) ≡ filled (refusalFrame number text place) (now (out .entry)) .buffer) ⌝ }
+{
+    if out.len() < 15 {
+        return 0;
+    }
+    let n = number % 256 * 1099511627776 + text % 256 * 4294967296 + place % 4294967296;
+    writing::put_number_frame(out, 255, 6, n)
+}
+
+// What was read, printed: its pieces, or one frame FF.
+fn printed(read: decks::DeckRead, out: &mut [u8]) -> usize
+    requires { ⌜ ((o : Outcome Deck) × Readable o × (read ≡ deckRead o)) ⌝ }
+    ensures { λ r. ⌜ ((o : Outcome Deck) → Readable o → read ≡ deckRead o → (r ≡ printedInto o (now (out .entry)) .report .bytes) × (now (out .exit) ≡ printedInto o (now (out .entry)) .buffer)) ⌝ }
+{
+    let r = reduced(read, out);
+    if r.number == 0 {
+        return r.second as usize;
+    }
+    put_refusal(r.number, r.text, r.place, out)
 }
