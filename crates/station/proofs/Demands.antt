@@ -6,7 +6,6 @@ use Prim.Native.Nat.{ℕ, _+_, _<_, _≤_}
 use native.Mathlib.Omega.{arith}
 use lib.ListN.{length, take, drop}
 use Rattle.lists.specs.Lists.{Each, Some, _among_, splice}
-use Rattle.lists.proofs.Laws.{each-map}
 use Rattle.sets.specs.Sets.{_⊆_, size}
 use Rattle.logic.specs.Expressions.{Expr, written}
 use Rattle.logic.specs.Decks.{Deck, Accepted, base}
@@ -15,8 +14,6 @@ use Rattle.logic.specs.Cones.{IsCone}
 use Rattle.logic.specs.Pieces.{split, pieces}
 use Rattle.logic.specs.Verdicts.{Verdict, Breaking, NotInitial as NotInitialState, NoStep as NoSuchStep, Holding as HoldingProperty, verdict}
 use Rattle.logic.proofs.Cone.{cone-is}
-use Rattle.logic.proofs.Pieces.{pieces-split, pieces-accepted}
-use Rattle.logic.proofs.Demand3.{demand-3-least, demand-3}
 use Rattle.logic.proofs.Verdict.{ClaimStep, accepted-exactly-when, refused-20-exactly-when, refused-21-exactly-when, refused-22-exactly-when}
 use Rattle.decks.specs.declared.Answer.{Answer}
 use Rattle.decks.specs.declared.Reply.{Reply}
@@ -32,6 +29,7 @@ use Rattle.cards.specs.Typed.{Typed, spelt, deckOf, Fits}
 use Rattle.cards.specs.Read.{readCards}
 use Rattle.cards.proofs.NothingDropped.{nothing-dropped, cards-accepted}
 use Rattle.pieces.specs.Reduced.{allFrames, pieceBytes}
+use Rattle.pieces.proofs.Theorems.{pieces-read-back}
 use Rattle.claims.specs.Checked.{verdictAnswer, checked}
 use Rattle.station.specs.declared.DeckReply.{DeckReply}
 use Rattle.station.specs.declared.CountReply.{CountReply}
@@ -228,8 +226,8 @@ cone-found text s r p z =
 -- For every accepted deck, each reduced deck keeps the least set of variables that holds its property's variables and every variable written in an equation of one it holds.
 -- Some run of the whole deck that ends in a repeating loop breaks the property exactly when such a run of at least one reduced deck breaks that deck's property.
 
--- What entitles us to check the decks ds and sign for the deck d.
-pub record Entitled (d : Deck) (ds : List Deck) : Type 0 where
+-- What entitles us to check the decks ds, to which d is reduced, and sign for d.
+pub record ReducedTo (d : Deck) (ds : List Deck) : Type 0 where
   -- the property of the i-th is the i-th conjunct of the deck's
   pub conjuncts : map (λ (q : Deck). q .property) ds ≡ split (d .property)
   pub least : Each (λ (q : Deck). IsCone (d .equations) (written (q .property)) (q .vars)) ds
@@ -244,14 +242,10 @@ pub record HoldsFrames (out : List ℕ) (r : CountReply) (after : List ℕ) (ds 
   pub bytes-written : take (r .second) after ≡ allFrames ds
   pub beyond : drop (r .second) after ≡ drop (r .second) out
 
-entitled : (d : Deck) → Accepted base d → Entitled d (pieces d)
+entitled : (d : Deck) → Accepted base d → ReducedTo d (pieces d)
 entitled d ok =
-    record {
-      conjuncts = pieces-split d;
-      least = demand-3-least d;
-      broken-exactly-when = demand-3 base d ok;
-      reads-back = each-map (Accepted base) (λ (q : Deck). readDeck (deckFrames q) ≡ Got q) (pieces d) deck-written-read (pieces-accepted base d ok);
-    }
+    let e = pieces-read-back d ok in
+    record { conjuncts = e .conjuncts; least = e .least; broken-exactly-when = e .demand; reads-back = e .read-back }
 
 holds-frames : (o : Outcome Deck) (out : List ℕ) (r : CountReply) (after : List ℕ) → Numbered o → (r ≡ reduceReply o out) × (after ≡ reduceBuffer o out) → r .number ≡ 0
     → (d : Deck) × (o ≡ Got d) × HoldsFrames out r after (pieces d)
@@ -269,29 +263,29 @@ holds-frames o out r after h (p, q) z =
       },
     )
 
--- Of every text that is reduced: the bytes written are exactly the frames of decks to which demand 3 entitles.
+-- Of every text that is reduced: the bytes written are exactly the frames of decks to which the deck is reduced.
 pub demand-3-reduces-cards : (text out : List ℕ) (r : CountReply) (after : List ℕ) → ReducesCards text out r after → r .number ≡ 0
-    → (d : Deck) × (ds : List Deck) × (readCards text ≡ Got d) × HoldsFrames out r after ds × Entitled d ds
+    → (d : Deck) × (ds : List Deck) × (readCards text ≡ Got d) × HoldsFrames out r after ds × ReducedTo d ds
 demand-3-reduces-cards text out r after w z =
     let (d, e, h) = holds-frames (readCards text) out r after (cards-numbered text) w z in
     (d, pieces d, e, h, entitled d (cards-accepted text d e))
 
 pub demand-3-reduces-frames : (text out : List ℕ) (r : CountReply) (after : List ℕ) → ReducesFrames text out r after → r .number ≡ 0
-    → (d : Deck) × (ds : List Deck) × (readDeck text ≡ Got d) × HoldsFrames out r after ds × Entitled d ds
+    → (d : Deck) × (ds : List Deck) × (readDeck text ≡ Got d) × HoldsFrames out r after ds × ReducedTo d ds
 demand-3-reduces-frames text out r after w z =
     let (d, e, h) = holds-frames (readDeck text) out r after (deck-numbered text) w z in
     (d, pieces d, e, h, entitled d (deck-read-accepted text d e))
 
 -- Where the room is too small (17): there are such decks, and the place is the bytes that their frames need, more than were lent.
 pub demand-3-no-room-cards : (text out : List ℕ) (r : CountReply) (after : List ℕ) → ReducesCards text out r after → r .number ≡ 17
-    → (d : Deck) × (ds : List Deck) × (readCards text ≡ Got d) × (r .place ≡ length (allFrames ds)) × (length out < r .place) × Entitled d ds
+    → (d : Deck) × (ds : List Deck) × (readCards text ≡ Got d) × (r .place ≡ length (allFrames ds)) × (length out < r .place) × ReducedTo d ds
 demand-3-no-room-cards text out r after (p, q) z =
     let (d, e, room, place) = reduce-no-room (readCards text) out (cards-numbered text) (sym (ap (λ (x : CountReply). x .number) p) ∙ z) in
     let n : r .place ≡ length (pieceBytes d) = ap (λ (x : CountReply). x .place) p ∙ place in
     (d, pieces d, e, n, omega (arith, n, room), entitled d (cards-accepted text d e))
 
 pub demand-3-no-room-frames : (text out : List ℕ) (r : CountReply) (after : List ℕ) → ReducesFrames text out r after → r .number ≡ 17
-    → (d : Deck) × (ds : List Deck) × (readDeck text ≡ Got d) × (r .place ≡ length (allFrames ds)) × (length out < r .place) × Entitled d ds
+    → (d : Deck) × (ds : List Deck) × (readDeck text ≡ Got d) × (r .place ≡ length (allFrames ds)) × (length out < r .place) × ReducedTo d ds
 demand-3-no-room-frames text out r after (p, q) z =
     let (d, e, room, place) = reduce-no-room (readDeck text) out (deck-numbered text) (sym (ap (λ (x : CountReply). x .number) p) ∙ z) in
     let n : r .place ≡ length (pieceBytes d) = ap (λ (x : CountReply). x .place) p ∙ place in

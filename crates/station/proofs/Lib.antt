@@ -4,5 +4,6 @@ pub mod NumberedCards
 pub mod NumberedFrames
 pub mod OperationLaws
 pub mod ReplyLaws
+pub mod PrintLaws
 pub mod Demands
 pub mod Worked

@@ -131,7 +131,7 @@ write-got (Refused a) out h z = absurd (omega (arith, h .0, z))
 -- ---- reductions
 
 -- The pieces do not fit and nothing changes, or they fit and stand in the first bytes.
-reduced-as : (d : Deck) (out : List ℕ)
+pub reduced-as : (d : Deck) (out : List ℕ)
     → ((length out < length (pieceBytes d)) × (reduced d (length out) ≡ record { answer = NoRoom (length (pieceBytes d)); pieces = 0; bytes = 0 }) × (reducedInto d out ≡ out))
     ⊎ ((length (pieceBytes d) ≤ length out) × (reduced d (length out) ≡ record { answer = Fine; pieces = length (pieces d); bytes = length (pieceBytes d) }) × (reducedInto d out ≡ splice 0 (pieceBytes d) out))
 unfolding reduced reducedInto

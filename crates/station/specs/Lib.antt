@@ -1,2 +1,4 @@
 pub mod Promises
 pub mod Readable
+pub mod Printed
+pub mod Exported

@@ -1,12 +1,18 @@
 // The public operations: each on texts, each with a reply to every text.
 ghost use mathlib.Core.Path.{_≡_};
-ghost use Rattle.logic.specs.Decks.{Deck};
-ghost use Rattle.decks.specs.Answers.{Outcome};
-ghost use Rattle.decks.specs.Stored.{deckRead};
-ghost use Rattle.cards.specs.Read.{readCards};
-ghost use Rattle.frames.specs.Read.{readDeck};
-ghost use Rattle.station.specs.Promises.{deckReply, countReply, readReply, writeReply, writeBuffer, coneReply, ReadsCards, ReadsFrames, WritesCards, WritesFrames, FindsCone};
+ghost use Rattle.logic.specs.Decks.{Deck, Accepted, base};
+ghost use Rattle.logic.specs.Meaning.{Claim, Sized};
+ghost use Rattle.logic.specs.Verdicts.{verdict};
+ghost use Rattle.decks.specs.Answers.{Outcome, Got, replyOf};
+ghost use Rattle.decks.specs.Stored.{stored, deckRead, claimRead};
+ghost use Rattle.claims.specs.Checked.{verdictAnswer, deckChecked, checked as claimAnswer};
+ghost use Rattle.station.specs.Promises.{deckReply, countReply, readReply, writeReply, writeBuffer, reduceReply, reduceBuffer, coneReply, ReadsFrames, WritesFrames, ReducesFrames, FindsCone, ChecksClaim};
+ghost use Rattle.texts.specs.Texts.{filled};
 ghost use Rattle.station.specs.Readable.{Readable};
+ghost use Rattle.station.specs.Printed.{refusalFrame, printedInto};
+ghost use Rattle.station.specs.Exported.{packed, packedReply, Exported};
+ghost use Rattle.frames.specs.Read.{readDeck};
+ghost use lib.ListN.{length};
 
 // A reply that returns a deck.
 pub struct DeckReply {
@@ -101,4 +107,165 @@ fn closed(read: decks::DeckRead, s: u64) -> CountReply
     let c = cones::cone(read.deck, s);
     let answer = c.answer;
     count_reply(answer, c.set, c.size as u64)
+}
+
+// What was read, reduced.
+fn reduced(read: decks::DeckRead, out: &mut [u8]) -> CountReply
+    requires { ⌜ ((o : Outcome Deck) × Readable o × (read ≡ deckRead o)) ⌝ }
+    ensures { λ r. ⌜ ((o : Outcome Deck) → Readable o → read ≡ deckRead o → (r ≡ reduceReply o (now (out .entry))) × (now (out .exit) ≡ reduceBuffer o (now (out .entry)))) ⌝ }
+{
+    let answer = read.answer;
+    let a = decks::reply_of(answer);
+    if a.number != 0 {
+        return refusal(a);
+    }
+    let p = pieces::reduce(read.deck, out);
+    let answer = p.answer;
+    count_reply(answer, p.pieces as u64, p.bytes as u64)
+}
+
+// The verdict on a claim that was read, on a deck that was read.
+fn judged(d: decks::Deck, m: decks::ClaimRead) -> decks::Answer
+    requires { ⌜ ((D : Deck) × Accepted base D × (d ≡ stored D)) × ((M : Claim) × Sized base M × (m ≡ claimRead (Got M))) ⌝ }
+    ensures { λ r. ⌜ ((D : Deck) (M : Claim) → Accepted base D → d ≡ stored D → Sized base M → m ≡ claimRead (Got M) → r ≡ verdictAnswer (verdict D M)) ⌝ }
+{
+    let count = m.p + m.c;
+    let states = m.states;
+    let mut words = [0u64; decks::STATES];
+    let mut marks = [0u64; decks::STATES];
+    claims::verdict_on(
+        d,
+        m.p,
+        &states[..count],
+        &mut words[..count],
+        &mut marks[..count],
+    )
+}
+
+// A claim checked against what was read.
+fn checked(read: decks::DeckRead, claim: &[u8]) -> decks::Reply
+    requires { ⌜ ((o : Outcome Deck) × Readable o × (read ≡ deckRead o)) ⌝ }
+    ensures { λ r. ⌜ ((o : Outcome Deck) → Readable o → read ≡ deckRead o → r ≡ replyOf (deckChecked o (now (claim .entry)))) ⌝ }
+{
+    let answer = read.answer;
+    let a = decks::reply_of(answer);
+    if a.number != 0 {
+        return a;
+    }
+    let d = read.deck;
+    let m = claimreading::read_claim(claim, d.vars);
+    let answer = m.answer;
+    let b = decks::reply_of(answer);
+    if b.number != 0 {
+        return b;
+    }
+    decks::reply_of(judged(d, m))
+}
+
+// A deck of frames, read.
+pub fn read_frames(text: &[u8]) -> DeckReply
+    ensures { λ r. ⌜ ReadsFrames (now (text .entry)) r ⌝ }
+{
+    replied(reading::read_deck(text))
+}
+
+// A deck of frames, written as frames.
+pub fn write_frames(text: &[u8], out: &mut [u8]) -> CountReply
+    ensures { λ r. ⌜ WritesFrames (now (text .entry)) (now (out .entry)) r (now (out .exit)) ⌝ }
+{
+    written(reading::read_deck(text), out)
+}
+
+// A deck of frames, reduced: all pieces written.
+pub fn reduce_frames(text: &[u8], out: &mut [u8]) -> CountReply
+    ensures { λ r. ⌜ ReducesFrames (now (text .entry)) (now (out .entry)) r (now (out .exit)) ⌝ }
+{
+    reduced(reading::read_deck(text), out)
+}
+
+// The cone of a set in a deck of frames, and its size.
+pub fn cone(text: &[u8], s: u64) -> CountReply
+    ensures { λ r. ⌜ FindsCone (now (text .entry)) s r ⌝ }
+{
+    closed(reading::read_deck(text), s)
+}
+
+// A claim checked against a deck, both frames.
+pub fn check<'a>(deck: &'a [u8], claim: &'a [u8]) -> decks::Reply
+    ensures { λ r. ⌜ ChecksClaim (now (deck .entry)) (now (claim .entry)) r ⌝ }
+{
+    checked(reading::read_deck(deck), claim)
+}
+
+// Number, text and place in one word.
+fn packed(number: u64, text: u64, place: u64) -> u64
+    ensures { λ r. ⌜ r ≡ packed number text place ⌝ }
+{
+    number % 256 + 256 * (text % 256) + 65536 * (place % 281474976710656)
+}
+
+// The two counts of a reply, and its number, text and place in one word.
+fn export(s: CountReply, counts: &mut [u64]) -> u64
+    requires { ⌜ length (now counts) ≡ 2 ⌝ }
+    ensures { λ r. ⌜ Exported s r (now (counts .exit)) ⌝ }
+{
+    counts[0] = s.first;
+    counts[1] = s.second;
+    packed(s.number, s.text, s.place)
+}
+
+// write_frames for C: bytes and 0 are the counts.
+#[no_mangle]
+pub extern "C" fn micaplume_write_frames(text: &[u8], out: &mut [u8], counts: &mut [u64; 2]) -> u64
+    ensures { λ r. ⌜ Exported (writeReply (readDeck (now (text .entry))) (now (out .entry))) r (now (counts .exit)) × (now (out .exit) ≡ writeBuffer (readDeck (now (text .entry))) (now (out .entry))) ⌝ }
+{
+    export(write_frames(text, out), counts)
+}
+
+// reduce_frames for C: pieces and bytes are the counts.
+#[no_mangle]
+pub extern "C" fn micaplume_reduce_frames(text: &[u8], out: &mut [u8], counts: &mut [u64; 2]) -> u64
+    ensures { λ r. ⌜ Exported (reduceReply (readDeck (now (text .entry))) (now (out .entry))) r (now (counts .exit)) × (now (out .exit) ≡ reduceBuffer (readDeck (now (text .entry))) (now (out .entry))) ⌝ }
+{
+    export(reduce_frames(text, out), counts)
+}
+
+// cone for C: the set and its size are the counts.
+#[no_mangle]
+pub extern "C" fn micaplume_cone(deck: &[u8], set: u64, counts: &mut [u64; 2]) -> u64
+    ensures { λ r. ⌜ Exported (coneReply (readDeck (now (deck .entry))) set) r (now (counts .exit)) ⌝ }
+{
+    export(cone(deck, set), counts)
+}
+
+// check for C.
+#[no_mangle]
+pub extern "C" fn micaplume_check<'a>(deck: &'a [u8], claim: &'a [u8]) -> u64
+    ensures { λ r. ⌜ r ≡ packedReply (replyOf (claimAnswer (now (deck .entry)) (now (claim .entry)))) ⌝ }
+{
+    let r = check(deck, claim);
+    packed(r.number, r.text, r.place)
+}
+
+// The frame FF into a buffer that has room for it, and its length.
+fn put_refusal(number: u64, text: u64, place: u64, out: &mut [u8]) -> usize
+    ensures { λ r. ⌜ (r ≡ filled (refusalFrame number text place) (now (out .entry)) .report .bytes) × (now (out .exit) ≡ filled (refusalFrame number text place) (now (out .entry)) .buffer) ⌝ }
+{
+    if out.len() < 15 {
+        return 0;
+    }
+    let n = number % 256 * 1099511627776 + text % 256 * 4294967296 + place % 4294967296;
+    writing::put_number_frame(out, 255, 6, n)
+}
+
+// What was read, printed: its pieces, or one frame FF.
+fn printed(read: decks::DeckRead, out: &mut [u8]) -> usize
+    requires { ⌜ ((o : Outcome Deck) × Readable o × (read ≡ deckRead o)) ⌝ }
+    ensures { λ r. ⌜ ((o : Outcome Deck) → Readable o → read ≡ deckRead o → (r ≡ printedInto o (now (out .entry)) .report .bytes) × (now (out .exit) ≡ printedInto o (now (out .entry)) .buffer)) ⌝ }
+{
+    let r = reduced(read, out);
+    if r.number == 0 {
+        return r.second as usize;
+    }
+    put_refusal(r.number, r.text, r.place, out)
 }

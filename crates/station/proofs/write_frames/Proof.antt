@@ -1,0 +1,27 @@
+use borrow.Author.Needs.{needs}
+use Rattle.station.proofs.write_frames.Statement.{statement}
+use Rattle.station.proofs.write_frames.Tie as tie
+use Rattle.station.proofs.write_frames.Reads as reads
+use Rattle.station.proofs.write_frames.Lts as lts
+use Rattle.station.proofs.OperationLaws as laws
+use Rattle.reading.proofs.read_deck.Reads as read-deck-reads
+use Rattle.station.proofs.written.Reads as written-reads
+
+-- src/lib.rt:171:13
+read-deck-requires : tie.Need-read-deck-requires
+read-deck-requires c κs = search needs
+
+-- src/lib.rt:171:5
+written-requires : tie.Need-written-requires
+written-requires c κs = laws.frames-read _ _ (c .before .read-deck .ensures)
+
+-- src/lib.rt:168:1
+same-length : tie.Need-same-length
+same-length c = search needs
+
+-- src/lib.rt:168:1
+returns : tie.Need-returns
+returns c = let p = laws.frames-read _ _ (c .before .before .before .before .read-deck .ensures) in c .before .before .written .ensures (p .0) (p .1) (p .2)
+
+pub write-frames-spec : {M : Type 1} → statement M
+write-frames-spec = tie.close (tie.spec read-deck-requires written-requires same-length returns)
