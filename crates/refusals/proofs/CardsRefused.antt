@@ -1,35 +1,31 @@
 -- A text of cards is refused exactly where one of its conditions is the first that holds.
-use mathlib.Core.Path.{_≡_, refl, sym, ap, _∙_, subst}
-use mathlib.Core.Logic.{_⊎_, inl, inr, ⊎-elim, _↔_}
-use mathlib.Core.Bool.{Bool, true, false}
+use mathlib.Core.Path.{_≡_, refl, sym, _∙_, subst}
+use mathlib.Core.Logic.{_↔_}
 use mathlib.Core.List.{List, [], _∷_}
-use Prim.Native.Nat.{ℕ, _+_, _^_, _<_, _≤_}
+use Prim.Native.Nat.{ℕ, _^_, _<_, _≤_}
 use native.Mathlib.Omega.{arith}
-use borrow.Author.Tests.{eq-eqb, eqb-true, ltb-true, ltb-false}
+use borrow.Author.Tests.{eq-eqb, ltb-true, ltb-false}
 use lib.Dec.{ltb}
 use lib.ListN.{length}
-use Rattle.lists.specs.Lists.{Some, _among_, keep}
+use Rattle.lists.specs.Lists.{keep}
 use Rattle.lists.proofs.Laws.{some-find, find-some, among-keep, keep-among}
-use Rattle.sets.specs.Sets.{_∋_}
 use Rattle.logic.specs.Decks.{Equation, Deck, base}
-use Rattle.decks.specs.declared.Answer.{Answer}
-use Rattle.decks.specs.declared.Answer.the-variants.{TooLong, NotDue, NoEquation}
-use Rattle.decks.specs.Answers.{Outcome, Got, Refused, refuse, afterwards}
+use Rattle.decks.specs.declared.Answer.the-variants.{NotDue, NoEquation}
+use Rattle.decks.specs.Answers.{Outcome, Refused}
 use Rattle.decks.specs.Readings.{walk, complete}
-use Rattle.cards.specs.Card.{cardsOf, Open, inForm}
+use Rattle.cards.specs.Card.{cardsOf, inForm}
 use Rattle.cards.specs.Statement.{Statement, inked, statementsOf}
-use Rattle.cards.specs.Typed.{Typed, firstVars, deckOf}
+use Rattle.cards.specs.Typed.{Typed, deckOf}
 use Rattle.cards.specs.Read.{Due, DueVars, DueInit, DueAny, DueEquation, DueEnd, DueNone, Sofar, begun, statementRead, cardsEnd, readCards}
 use Rattle.cards.proofs.TypedLaws.{ofVariable, member-first-vars, first-vars-most}
 use Rattle.cards.proofs.NothingDropped.{equations-as-typed}
 use Rattle.frames.proofs.LeftLaws.{HasEquation}
-use Rattle.refusals.specs.Order.{Conditions, Done, Try, FirstOf, NoneOf, followed, oneByOne, backwards, rising}
-use Rattle.refusals.specs.CardFaults.{cardFaults}
-use Rattle.refusals.specs.StatementFaults.{Item, Count, Initial, Equals, Property, Ending, SpellsItem, added, Typing, Behind, statementFaults}
+use Rattle.refusals.specs.Order.{Try, backwards, rising}
+use Rattle.refusals.specs.StatementFaults.{Item, Count, Initial, Equals, Property, Ending, SpellsItem, added, Typing, Behind}
 use Rattle.refusals.specs.CardsOrder.{Missing, Lacking, cardsOrder}
-use Rattle.refusals.proofs.OrderLaws.{Meets, meets-is, meets-here, meets-past, meets-test, meets-got, meets-keeps, meets-afterwards, alike-meets, rising-alike}
+use Rattle.refusals.proofs.OrderLaws.{Meets, meets-is, meets-here, meets-past, meets-test, meets-keeps, meets-afterwards, alike-meets, rising-alike}
 use Rattle.refusals.proofs.CardsInForm.{Stands, form-meets}
-use Rattle.refusals.proofs.Statements.{member-below, typing-unique, behind-is, statements-meet}
+use Rattle.refusals.proofs.Statements.{member-below, behind-is, statements-meet}
 use Rattle.refusals.proofs.Lacking.{complete-same, Without, complete-meets}
 
 -- ---- the equations of the deck and those typed

@@ -1,6 +1,6 @@
 -- A claim in frames is refused exactly where one of its conditions is the first that holds.
 use mathlib.Core.Path.{_≡_, refl, sym, ap, ap₂, _∙_, subst}
-use mathlib.Core.Logic.{_⊎_, inl, inr, ⊎-elim, _↔_}
+use mathlib.Core.Logic.{inl, inr, ⊎-elim, _↔_}
 use mathlib.Core.Bool.{Bool, true, false, not}
 use mathlib.Core.List.{List, [], _∷_, _++_}
 use mathlib.Core.Option.{Option, none, some}
@@ -10,12 +10,12 @@ use borrow.Author.Tests.{lt-ltb, le-ltb, ltb-true, ltb-false, eq-eqb, ne-eqb, eq
 use lib.Dec.{ltb, eqb}
 use lib.ListN.{length, drop}
 use Rattle.lists.specs.Lists.{ended, unended}
-use Rattle.sets.specs.Sets.{_⊆_, inside}
+use Rattle.sets.specs.Sets.{inside}
 use Rattle.sets.proofs.Laws.{true-inside, false-inside}
 use Rattle.logic.specs.Decks.{base}
 use Rattle.logic.specs.Meaning.{Claim}
 use Rattle.decks.specs.declared.Answer.{Answer}
-use Rattle.decks.specs.declared.Answer.the-variants.{TooLong, BadFrame, Outside}
+use Rattle.decks.specs.declared.Answer.the-variants.{BadFrame, Outside}
 use Rattle.decks.specs.Answers.{Outcome, Got, Refused, refuse, afterwards}
 use Rattle.frames.specs.Hex.{pair, pairs, number}
 use Rattle.frames.specs.Written.{setBytes, claimKind, stateKind, claimCountKind}
@@ -23,7 +23,7 @@ use Rattle.frames.specs.Read.{walk as walkLines, wholeNumber, kindOf, countLine
 use Rattle.frames.proofs.HexLaws.{pairs-four}
 use Rattle.frames.proofs.LineLaws.{refused-got, kind-line, line-kind, whole-number-pairs, whole-number-got}
 use Rattle.cards.proofs.Outcomes.{got-eq}
-use Rattle.refusals.specs.Order.{Conditions, Done, Try, FirstOf, NoneOf, followed, oneByOne, backwards}
+use Rattle.refusals.specs.Order.{Done, Try, oneByOne, backwards}
 use Rattle.refusals.specs.ClaimFaults.{ClaimFrame, Sizes, State, Closing, Holds, added, UsesOutside, Framing, Behind, claimFaults, ClaimEndsEarly, claimOrder}
 use Rattle.refusals.proofs.OrderLaws.{Meets, meets-is, meets-here, meets-past, meets-test, meets-got, meets-keeps, meets-afterwards, alike-meets, meets-walk}
 use Rattle.refusals.proofs.FramesRefused.{walk-same}

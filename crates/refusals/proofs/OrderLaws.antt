@@ -1,7 +1,7 @@
 -- Laws of conditions in an order: a reader that meets them refuses exactly where one of them is the first that holds.
 use mathlib.Core.Path.{_≡_, refl, sym, ap, _∙_, subst}
 use mathlib.Core.Logic.{_⊎_, inl, inr, ⊎-elim, by-cases, _↔_}
-use mathlib.Core.Bool.{Bool, true, false, not}
+use mathlib.Core.Bool.{Bool, true, false}
 use mathlib.Core.List.{List, [], _∷_, _++_}
 use Prim.Native.Nat.{ℕ, zero, suc, _+_, _<_, _≤_}
 use native.Mathlib.Omega.{arith}
@@ -10,8 +10,15 @@ use native.Mathlib.Decide.{ℕ-discrete}
 use Rattle.decks.specs.declared.Answer.{Answer}
 use Rattle.decks.specs.Answers.{Outcome, Got, Refused, refuse, afterwards}
 use Rattle.decks.specs.Readings.{walk}
-use Rattle.cards.proofs.Outcomes.{refused-got, got-eq, walk-got, walk-refused}
+use Rattle.cards.proofs.Outcomes.{refused-got, walk-got, walk-refused}
 use Rattle.refusals.specs.Order.{Conditions, Done, Try, FirstOf, NoneOf, followed, oneByOne, backwards, rising}
+
+-- general:
+
+pub true-false : {P : Type 0} → true ≡ false → P
+true-false e = let z : _≡_ {A = ℕ} 0 1 = cc in absurd (omega arith)
+
+-- ---- the first that holds
 
 -- The first that holds is one.
 pub first-unique : (c : Conditions) (a b : Answer) → FirstOf c a → FirstOf c b → a ≡ b

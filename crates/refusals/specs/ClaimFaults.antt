@@ -12,7 +12,7 @@ use Rattle.decks.specs.declared.Answer.the-variants.{TooLong, BadFrame, Outside
 use Rattle.frames.specs.Hex.{pair, pairs}
 use Rattle.frames.specs.Written.{setBytes, claimKind, stateKind, claimCountKind}
 use Rattle.frames.specs.Read.{ClaimSofar, ClaimDue, StatesDue, ClaimWhole}
-use Rattle.refusals.specs.Order.{Conditions, Done, Try, NoneOf, followed, oneByOne, backwards}
+use Rattle.refusals.specs.Order.{Conditions, Done, Try, followed, oneByOne, backwards}
 
 -- What a line holds: 11 with p and c; behind the claim so far, 12 with a state, or 15 with a count.
 pub data ClaimFrame : Type 0 where
