@@ -1,5 +1,5 @@
 -- A text of cards is refused exactly where one of its conditions is the first that holds.
-use mathlib.Core.Path.{_≡_, refl, sym, _∙_, subst}
+use mathlib.Core.Path.{_≡_, refl, sym, ap, _∙_, subst}
 use mathlib.Core.Logic.{_↔_}
 use mathlib.Core.List.{List, [], _∷_}
 use Prim.Native.Nat.{ℕ, _^_, _<_, _≤_}
@@ -21,11 +21,11 @@ use Rattle.cards.proofs.TypedLaws.{ofVariable, member-first-vars, first-vars-mo
 use Rattle.cards.proofs.NothingDropped.{equations-as-typed}
 use Rattle.frames.proofs.LeftLaws.{HasEquation}
 use Rattle.refusals.specs.Order.{Try, backwards, rising}
-use Rattle.refusals.specs.StatementFaults.{Item, Count, Initial, Equals, Property, Ending, SpellsItem, added, Typing, Behind}
-use Rattle.refusals.specs.CardsOrder.{Missing, Lacking, cardsOrder}
+use Rattle.refusals.specs.StatementFaults.{Item, Count, Initial, Equals, Property, Ending, SpellsItem, added, Typing}
+use Rattle.refusals.specs.CardsOrder.{Missing, Lacking, cardsOrder, Gives}
 use Rattle.refusals.proofs.OrderLaws.{Meets, meets-is, meets-here, meets-past, meets-test, meets-keeps, meets-afterwards, alike-meets, rising-alike}
 use Rattle.refusals.proofs.CardsInForm.{Stands, form-meets}
-use Rattle.refusals.proofs.Statements.{member-below, behind-is, statements-meet}
+use Rattle.refusals.proofs.Statements.{member-below, typing-unique, behind-is, statements-meet}
 use Rattle.refusals.proofs.Lacking.{complete-same, Without, complete-meets}
 
 -- ---- the equations of the deck and those typed
@@ -109,10 +109,6 @@ module _ (back : List Statement) (so : Sofar) (t : Typing back so) where
 
 -- ---- a text of cards
 
--- What is typed with all its statements gives this deck.
-abbrev pub Gives : List ℕ → Deck → Type 0
-Gives text d = Behind (backwards [] (statementsOf (cardsOf text))) (λ so. d ≡ deckOf (so .typed))
-
 pub cards-meet : (text : List ℕ) → Meets (cardsOrder text) (Gives text) (readCards text)
 unfolding readCards
 cards-meet text =
@@ -120,3 +116,6 @@ cards-meet text =
     meets-afterwards _ _ (Stands (backwards [] (cardsOf text))) (Gives text) (inForm (cardsOf text)) _ (form-meets (cardsOf text)) (λ o f p.
     meets-afterwards _ _ (Typing (backwards [] (statementsOf (cardsOf text)))) (Gives text) (walk statementRead 1 (statementsOf (cardsOf text)) begun) cardsEnd (statements-meet (statementsOf (cardsOf text))) (λ so g t.
     meets-keeps _ _ (Gives text) (cardsEnd so) (end-meets (backwards [] (statementsOf (cardsOf text))) so t) (λ d n e. (so, t, e)))))
+
+pub gives-unique : (text : List ℕ) (d e : Deck) → Gives text d → Gives text e → d ≡ e
+gives-unique text d e (so, t, p) (to, u, q) = p ∙ ap (λ (s : Sofar). deckOf (s .typed)) (typing-unique (backwards [] (statementsOf (cardsOf text))) so to t u) ∙ sym q

@@ -24,7 +24,7 @@ use Rattle.frames.proofs.HexLaws.{pairs-four}
 use Rattle.frames.proofs.LineLaws.{refused-got, kind-line, line-kind, whole-number-pairs, whole-number-got}
 use Rattle.cards.proofs.Outcomes.{got-eq}
 use Rattle.refusals.specs.Order.{Done, Try, oneByOne, backwards}
-use Rattle.refusals.specs.ClaimFaults.{ClaimFrame, Sizes, State, Closing, Holds, added, UsesOutside, Framing, Behind, claimFaults, ClaimEndsEarly, claimOrder}
+use Rattle.refusals.specs.ClaimFaults.{ClaimFrame, Sizes, State, Closing, Holds, added, UsesOutside, Framing, Behind, claimFaults, ClaimEndsEarly, claimOrder, Gives}
 use Rattle.refusals.proofs.OrderLaws.{Meets, meets-is, meets-here, meets-past, meets-test, meets-got, meets-keeps, meets-afterwards, alike-meets, meets-walk}
 use Rattle.refusals.proofs.FramesRefused.{walk-same}
 
@@ -235,13 +235,12 @@ module _ (vars : ℕ) where
       ends [] (ClaimWhole m) e f = meets-past _ _ _ _ _ (⊎-elim (λ n. n e) (λ h. behind-is (backwards [] (ended text)) so t (λ (w : ClaimSofar). (m : Claim) → w ≡ ClaimWhole m → ⊥) h m f)) (meets-got _ m f)
       ends (c ∷ cs) v e f = meets-here _ _ _ _ (inl (λ k. let z : c ∷ cs ≡ [] = sym e ∙ k in let z : _≡_ {A = ℕ} 0 1 = cc in omega arith))
 
-  -- Its lines give this claim.
-  abbrev pub Gives : List ℕ → Claim → Type 0
-  Gives text m = Behind vars (backwards [] (ended text)) (λ so. so ≡ ClaimWhole m)
-
-  pub claims-meet : (text : List ℕ) → Meets (claimOrder vars text) (Gives text) (readClaim vars text)
+  pub claims-meet : (text : List ℕ) → Meets (claimOrder vars text) (Gives vars text) (readClaim vars text)
   unfolding readClaim
   claims-meet text =
       meets-test _ _ _ _ (ltb (base .text) (length text)) _ (ltb-true (base .text) (length text)) (λ e h. omega (arith, ltb-false (base .text) (length text) e)) (λ e.
-      meets-afterwards _ _ (Framing vars (backwards [] (ended text))) (Gives text) (walkLines (claimLine vars) 1 (ended text) ClaimDue) (λ s. claimEnd (unended text) s) (lines-meet (ended text)) (λ so g t.
-      meets-keeps _ _ (Gives text) (claimEnd (unended text) so) (end-meets text so t) (λ m n e. (so, t, e))))
+      meets-afterwards _ _ (Framing vars (backwards [] (ended text))) (Gives vars text) (walkLines (claimLine vars) 1 (ended text) ClaimDue) (λ s. claimEnd (unended text) s) (lines-meet (ended text)) (λ so g t.
+      meets-keeps _ _ (Gives vars text) (claimEnd (unended text) so) (end-meets text so t) (λ m n e. (so, t, e))))
+
+  pub gives-unique : (text : List ℕ) (m k : Claim) → Gives vars text m → Gives vars text k → m ≡ k
+  gives-unique text m k (so, t, p) (to, u, q) = let e : ClaimWhole m ≡ ClaimWhole k = sym p ∙ framing-unique (backwards [] (ended text)) so to t u ∙ q in cc

@@ -23,7 +23,7 @@ use Rattle.frames.proofs.LeftLaws.{HasEquation}
 use Rattle.cards.proofs.Outcomes.{got-eq}
 use Rattle.refusals.specs.Order.{Conditions, Done, Try, oneByOne, backwards, rising}
 use Rattle.refusals.specs.FrameFaults.{Frame, SetFrame, InitFrame, EquationFrame, PropertyFrame, CountFrame, WritesFrame, Holds, DeepLine, NoFrame, UsesOutside, NotPlain, InitialOver, EquationOver, NodesOver, frameFaults, added, Framing, Behind, Holding, lineFaults}
-use Rattle.refusals.specs.FramesOrder.{EndsEarly, Lacking, framesOrder}
+use Rattle.refusals.specs.FramesOrder.{EndsEarly, Lacking, framesOrder, Gives}
 use Rattle.refusals.proofs.OrderLaws.{true-false, Meets, meets-is, meets-here, meets-past, meets-test, meets-got, meets-keeps, meets-afterwards, alike-meets, meets-walk, rising-alike}
 use Rattle.refusals.proofs.Lacking.{Without, complete-meets}
 use Rattle.refusals.proofs.Frames.{frameRead, judged, line-judges, holds-read, deep-read, Comes, line-comes}
@@ -201,13 +201,12 @@ module _ (text : List ℕ) (so : Sofar) (t : Framing (backwards [] (ended text))
 
 -- ---- a deck in frames
 
--- Its lines give this deck.
-abbrev pub Gives : List ℕ → Deck → Type 0
-Gives text d = Behind (backwards [] (ended text)) (λ so. d ≡ so .deck)
-
 pub frames-meet : (text : List ℕ) → Meets (framesOrder text) (Gives text) (readDeck text)
 unfolding readDeck
 frames-meet text =
     meets-test _ _ _ _ (ltb (base .text) (length text)) _ (ltb-true (base .text) (length text)) (λ e h. omega (arith, ltb-false (base .text) (length text) e)) (λ e.
     meets-afterwards _ _ (Framing (backwards [] (ended text))) (Gives text) (walkLines deckLine 1 (ended text) begun) (λ s. deckEnd (unended text) s) (lines-meet (ended text)) (λ so g t.
     meets-keeps _ _ (Gives text) (deckEnd (unended text) so) (end-meets text so t) (λ d n e. (so, t, e))))
+
+pub gives-unique : (text : List ℕ) (d e : Deck) → Gives text d → Gives text e → d ≡ e
+gives-unique text d e (so, t, p) (to, u, q) = p ∙ ap (λ (s : Sofar). s .deck) (framing-unique (backwards [] (ended text)) so to t u) ∙ sym q

@@ -10,7 +10,7 @@ use native.Mathlib.Decide.{ℕ-discrete}
 use Rattle.decks.specs.declared.Answer.{Answer}
 use Rattle.decks.specs.Answers.{Outcome, Got, Refused, refuse, afterwards}
 use Rattle.decks.specs.Readings.{walk}
-use Rattle.cards.proofs.Outcomes.{refused-got, walk-got, walk-refused}
+use Rattle.cards.proofs.Outcomes.{refused-got, got-eq, walk-got, walk-refused}
 use Rattle.refusals.specs.Order.{Conditions, Done, Try, FirstOf, NoneOf, followed, oneByOne, backwards, rising}
 
 -- general:
@@ -72,11 +72,11 @@ module _ {A : Type 0} where
   meets-exactly c Q (Got x) m a = (λ e. refused-got (sym e), λ f. absurd (first-none c a f (m .0)))
   meets-exactly c Q (Refused b) m a = (λ e. let same : b ≡ a = cc in subst (FirstOf c) same m, λ f. ap Refused (first-unique c b a m f))
 
-  -- A result comes exactly where no condition holds.
-  pub meets-none : (c : Conditions) (Q : A → Type 0) (r : Outcome A) → Meets c Q r → ((x : A) × (r ≡ Got x)) ↔ NoneOf c
+  -- Which result comes: the one with Q, where no condition holds.
+  pub meets-result : (c : Conditions) (Q : A → Type 0) (r : Outcome A) → Meets c Q r → ((x y : A) → Q x → Q y → x ≡ y) → (x : A) → (r ≡ Got x) ↔ (NoneOf c × Q x)
   unfolding Meets
-  meets-none c Q (Got x) m = (λ e. m .0, λ n. (x, refl))
-  meets-none c Q (Refused b) m = (λ (x, e). refused-got e, λ n. absurd (first-none c b m n))
+  meets-result c Q (Got y) (n, q) one x = (λ e. (n, subst Q (got-eq e) q), λ (m, p). ap Got (one y x q p))
+  meets-result c Q (Refused b) m one x = (λ e. refused-got e, λ (n, p). absurd (first-none c b m n))
 
   pub meets-is : (c : Conditions) (Q : A → Type 0) (r s : Outcome A) → r ≡ s → Meets c Q s → Meets c Q r
   meets-is c Q r s e m = subst (Meets c Q) (sym e) m

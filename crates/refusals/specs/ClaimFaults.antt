@@ -62,3 +62,7 @@ ClaimEndsEarly vars text = (unended text ≡ [] → ⊥) ⊎ Behind vars (backwa
 abbrev pub claimOrder : ℕ → List ℕ → Conditions
 claimOrder vars text =
     Try (base .text < length text) (TooLong 2) (followed (oneByOne (claimFaults vars) 1 [] (ended text)) (Try (ClaimEndsEarly vars text) (BadFrame 2 0) Done))
+
+-- Its lines give this claim.
+abbrev pub Gives : ℕ → List ℕ → Claim → Type 0
+Gives vars text m = Behind vars (backwards [] (ended text)) (λ so. so ≡ ClaimWhole m)
