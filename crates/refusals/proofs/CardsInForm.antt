@@ -6,25 +6,20 @@ use mathlib.Core.List.{List, [], _∷_}
 use Prim.Native.Nat.{ℕ, zero, suc, _+_, _<_, _≤_}
 use Prim.Native.Char.{code as character}
 use native.Mathlib.Omega.{arith}
-use native.Mathlib.Decide.{decLt, decLe, ℕ-discrete}
+use native.Mathlib.Decide.{decLt, ℕ-discrete}
 use borrow.Author.Tests.{eq-eqb, eqb-true, eqb-false, ltb-true, ltb-false}
 use lib.Dec.{eqb, ltb}
 use lib.ListN.{length}
-use Rattle.lists.specs.Lists.{Each, Some}
 use Rattle.decks.specs.declared.Answer.{Answer}
-use Rattle.decks.specs.declared.Answer.the-variants.{BadByte, TooWide, BadStart, BadNumber, NoneOpen, TooManyCards}
-use Rattle.decks.specs.Answers.{Outcome, Got, Refused, refuse}
-use Rattle.decks.specs.Readings.{walk}
+use Rattle.decks.specs.declared.Answer.the-variants.{BadByte, TooWide, BadStart, NoneOpen, TooManyCards}
+use Rattle.decks.specs.Answers.{Outcome, Got, Refused}
 use Rattle.cards.specs.Card.{blank, continuations, columns, every, isBlank, isComment, Kind, Comment, Empty, Opening, Continuing, kindOf, Open, Shut, Continued, opened, cardInForm, inForm}
-use Rattle.cards.specs.Columns.{punched, remark, Margins, Formed}
+use Rattle.cards.specs.Columns.{punched, remark}
 use Rattle.cards.proofs.ColumnLaws.{every-column}
-use Rattle.cards.proofs.CardsExactlyWhen.{BytesIn, StartBlank, CardComes, card-comes, column-every}
-use Rattle.refusals.specs.Order.{Conditions, Done, Try, FirstOf, NoneOf, oneByOne, backwards}
-use Rattle.refusals.specs.CardFaults.{ByteOutside, OverWide, StartPunched, MarginWrong, Continues, Opens, OpenOver, ContinuesNone, Twentieth, cardFaults}
-use Rattle.refusals.proofs.OrderLaws.{Meets, meets-exactly, meets-is, meets-here, meets-past, meets-test, meets-got, meets-walk}
-
-true-false : {P : Type 0} → true ≡ false → P
-true-false e = let z : _≡_ {A = ℕ} 0 1 = cc in absurd (omega arith)
+use Rattle.cards.proofs.CardsExactlyWhen.{BytesIn, StartBlank, card-comes, column-every}
+use Rattle.refusals.specs.Order.{Conditions, Done, Try, FirstOf, oneByOne, backwards}
+use Rattle.refusals.specs.CardFaults.{ByteOutside, OverWide, StartPunched, Continues, Opens, OpenOver, ContinuesNone, Twentieth, cardFaults}
+use Rattle.refusals.proofs.OrderLaws.{true-false, Meets, meets-exactly, meets-here, meets-past, meets-test, meets-got, meets-walk}
 
 -- ---- the bytes and columns of one card
 

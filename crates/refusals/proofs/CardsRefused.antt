@@ -1,33 +1,29 @@
 -- A text of cards is refused exactly where one of its conditions is the first that holds.
 use mathlib.Core.Path.{_≡_, refl, sym, ap, _∙_, subst}
-use mathlib.Core.Logic.{_⊎_, inl, inr, ⊎-elim, _↔_}
-use mathlib.Core.Bool.{Bool, true, false}
+use mathlib.Core.Logic.{_↔_}
 use mathlib.Core.List.{List, [], _∷_}
-use Prim.Native.Nat.{ℕ, _+_, _^_, _<_, _≤_}
+use Prim.Native.Nat.{ℕ, _^_, _<_, _≤_}
 use native.Mathlib.Omega.{arith}
-use borrow.Author.Tests.{eq-eqb, eqb-true, ltb-true, ltb-false}
+use borrow.Author.Tests.{eq-eqb, ltb-true, ltb-false}
 use lib.Dec.{ltb}
 use lib.ListN.{length}
-use Rattle.lists.specs.Lists.{Some, _among_, keep}
+use Rattle.lists.specs.Lists.{keep}
 use Rattle.lists.proofs.Laws.{some-find, find-some, among-keep, keep-among}
-use Rattle.sets.specs.Sets.{_∋_}
 use Rattle.logic.specs.Decks.{Equation, Deck, base}
-use Rattle.decks.specs.declared.Answer.{Answer}
-use Rattle.decks.specs.declared.Answer.the-variants.{TooLong, NotDue, NoEquation}
-use Rattle.decks.specs.Answers.{Outcome, Got, Refused, refuse, afterwards}
+use Rattle.decks.specs.declared.Answer.the-variants.{NotDue, NoEquation}
+use Rattle.decks.specs.Answers.{Outcome, Refused}
 use Rattle.decks.specs.Readings.{walk, complete}
-use Rattle.cards.specs.Card.{cardsOf, Open, inForm}
+use Rattle.cards.specs.Card.{cardsOf, inForm}
 use Rattle.cards.specs.Statement.{Statement, inked, statementsOf}
-use Rattle.cards.specs.Typed.{Typed, firstVars, deckOf}
+use Rattle.cards.specs.Typed.{Typed, deckOf}
 use Rattle.cards.specs.Read.{Due, DueVars, DueInit, DueAny, DueEquation, DueEnd, DueNone, Sofar, begun, statementRead, cardsEnd, readCards}
 use Rattle.cards.proofs.TypedLaws.{ofVariable, member-first-vars, first-vars-most}
 use Rattle.cards.proofs.NothingDropped.{equations-as-typed}
-use Rattle.decks.proofs.Complete.{HasEquation}
-use Rattle.refusals.specs.Order.{Conditions, Done, Try, FirstOf, NoneOf, followed, oneByOne, backwards, rising}
-use Rattle.refusals.specs.CardFaults.{cardFaults}
-use Rattle.refusals.specs.StatementFaults.{Item, Count, Initial, Equals, Property, Ending, SpellsItem, added, Typing, Behind, statementFaults}
-use Rattle.refusals.specs.CardsOrder.{Missing, Lacking, cardsOrder}
-use Rattle.refusals.proofs.OrderLaws.{Meets, meets-is, meets-here, meets-past, meets-test, meets-got, meets-keeps, meets-afterwards, alike-meets, rising-alike}
+use Rattle.frames.proofs.LeftLaws.{HasEquation}
+use Rattle.refusals.specs.Order.{Try, backwards, rising}
+use Rattle.refusals.specs.StatementFaults.{Item, Count, Initial, Equals, Property, Ending, SpellsItem, added, Typing}
+use Rattle.refusals.specs.CardsOrder.{Missing, Lacking, cardsOrder, Gives}
+use Rattle.refusals.proofs.OrderLaws.{Meets, meets-is, meets-here, meets-past, meets-test, meets-keeps, meets-afterwards, alike-meets, rising-alike}
 use Rattle.refusals.proofs.CardsInForm.{Stands, form-meets}
 use Rattle.refusals.proofs.Statements.{member-below, typing-unique, behind-is, statements-meet}
 use Rattle.refusals.proofs.Lacking.{complete-same, Without, complete-meets}
@@ -113,10 +109,6 @@ module _ (back : List Statement) (so : Sofar) (t : Typing back so) where
 
 -- ---- a text of cards
 
--- What is typed with all its statements gives this deck.
-abbrev pub Gives : List ℕ → Deck → Type 0
-Gives text d = Behind (backwards [] (statementsOf (cardsOf text))) (λ so. d ≡ deckOf (so .typed))
-
 pub cards-meet : (text : List ℕ) → Meets (cardsOrder text) (Gives text) (readCards text)
 unfolding readCards
 cards-meet text =
@@ -124,3 +116,6 @@ cards-meet text =
     meets-afterwards _ _ (Stands (backwards [] (cardsOf text))) (Gives text) (inForm (cardsOf text)) _ (form-meets (cardsOf text)) (λ o f p.
     meets-afterwards _ _ (Typing (backwards [] (statementsOf (cardsOf text)))) (Gives text) (walk statementRead 1 (statementsOf (cardsOf text)) begun) cardsEnd (statements-meet (statementsOf (cardsOf text))) (λ so g t.
     meets-keeps _ _ (Gives text) (cardsEnd so) (end-meets (backwards [] (statementsOf (cardsOf text))) so t) (λ d n e. (so, t, e)))))
+
+pub gives-unique : (text : List ℕ) (d e : Deck) → Gives text d → Gives text e → d ≡ e
+gives-unique text d e (so, t, p) (to, u, q) = p ∙ ap (λ (s : Sofar). deckOf (s .typed)) (typing-unique (backwards [] (statementsOf (cardsOf text))) so to t u) ∙ sym q

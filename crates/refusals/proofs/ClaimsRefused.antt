@@ -1,6 +1,6 @@
 -- A claim in frames is refused exactly where one of its conditions is the first that holds.
 use mathlib.Core.Path.{_≡_, refl, sym, ap, ap₂, _∙_, subst}
-use mathlib.Core.Logic.{_⊎_, inl, inr, ⊎-elim, _↔_}
+use mathlib.Core.Logic.{inl, inr, ⊎-elim, _↔_}
 use mathlib.Core.Bool.{Bool, true, false, not}
 use mathlib.Core.List.{List, [], _∷_, _++_}
 use mathlib.Core.Option.{Option, none, some}
@@ -10,22 +10,21 @@ use borrow.Author.Tests.{lt-ltb, le-ltb, ltb-true, ltb-false, eq-eqb, ne-eqb, eq
 use lib.Dec.{ltb, eqb}
 use lib.ListN.{length, drop}
 use Rattle.lists.specs.Lists.{ended, unended}
-use Rattle.sets.specs.Sets.{_⊆_, inside}
+use Rattle.sets.specs.Sets.{inside}
 use Rattle.sets.proofs.Laws.{true-inside, false-inside}
 use Rattle.logic.specs.Decks.{base}
 use Rattle.logic.specs.Meaning.{Claim}
 use Rattle.decks.specs.declared.Answer.{Answer}
-use Rattle.decks.specs.declared.Answer.the-variants.{TooLong, BadFrame, Outside}
+use Rattle.decks.specs.declared.Answer.the-variants.{BadFrame, Outside}
 use Rattle.decks.specs.Answers.{Outcome, Got, Refused, refuse, afterwards}
 use Rattle.frames.specs.Hex.{pair, pairs, number}
 use Rattle.frames.specs.Written.{setBytes, claimKind, stateKind, claimCountKind}
-use Rattle.frames.specs.Read.{wholeNumber, kindOf, countLine, ClaimSofar, ClaimDue, StatesDue, ClaimWhole, sizesLine, stateLine, claimLine, claimEnd, readClaim}
-use Rattle.decks.specs.Readings.{walk as walkLines}
+use Rattle.frames.specs.Read.{walk as walkLines, wholeNumber, kindOf, countLine, ClaimSofar, ClaimDue, StatesDue, ClaimWhole, sizesLine, stateLine, claimLine, claimEnd, readClaim}
 use Rattle.frames.proofs.HexLaws.{pairs-four}
-use Rattle.frames.proofs.LineLaws.{kind-line, line-kind, whole-number-pairs, whole-number-got}
-use Rattle.decks.proofs.Outcomes.{refused-got, got-eq}
-use Rattle.refusals.specs.Order.{Conditions, Done, Try, FirstOf, NoneOf, followed, oneByOne, backwards}
-use Rattle.refusals.specs.ClaimFaults.{ClaimFrame, Sizes, State, Closing, Holds, added, UsesOutside, Framing, Behind, claimFaults, ClaimEndsEarly, claimOrder}
+use Rattle.frames.proofs.LineLaws.{refused-got, kind-line, line-kind, whole-number-pairs, whole-number-got}
+use Rattle.cards.proofs.Outcomes.{got-eq}
+use Rattle.refusals.specs.Order.{Done, Try, oneByOne, backwards}
+use Rattle.refusals.specs.ClaimFaults.{ClaimFrame, Sizes, State, Closing, Holds, added, UsesOutside, Framing, Behind, claimFaults, ClaimEndsEarly, claimOrder, Gives}
 use Rattle.refusals.proofs.OrderLaws.{Meets, meets-is, meets-here, meets-past, meets-test, meets-got, meets-keeps, meets-afterwards, alike-meets, meets-walk}
 use Rattle.refusals.proofs.FramesRefused.{walk-same}
 
@@ -236,13 +235,12 @@ module _ (vars : ℕ) where
       ends [] (ClaimWhole m) e f = meets-past _ _ _ _ _ (⊎-elim (λ n. n e) (λ h. behind-is (backwards [] (ended text)) so t (λ (w : ClaimSofar). (m : Claim) → w ≡ ClaimWhole m → ⊥) h m f)) (meets-got _ m f)
       ends (c ∷ cs) v e f = meets-here _ _ _ _ (inl (λ k. let z : c ∷ cs ≡ [] = sym e ∙ k in let z : _≡_ {A = ℕ} 0 1 = cc in omega arith))
 
-  -- Its lines give this claim.
-  abbrev pub Gives : List ℕ → Claim → Type 0
-  Gives text m = Behind vars (backwards [] (ended text)) (λ so. so ≡ ClaimWhole m)
-
-  pub claims-meet : (text : List ℕ) → Meets (claimOrder vars text) (Gives text) (readClaim vars text)
+  pub claims-meet : (text : List ℕ) → Meets (claimOrder vars text) (Gives vars text) (readClaim vars text)
   unfolding readClaim
   claims-meet text =
       meets-test _ _ _ _ (ltb (base .text) (length text)) _ (ltb-true (base .text) (length text)) (λ e h. omega (arith, ltb-false (base .text) (length text) e)) (λ e.
-      meets-afterwards _ _ (Framing vars (backwards [] (ended text))) (Gives text) (walkLines (claimLine vars) 1 (ended text) ClaimDue) (λ s. claimEnd (unended text) s) (lines-meet (ended text)) (λ so g t.
-      meets-keeps _ _ (Gives text) (claimEnd (unended text) so) (end-meets text so t) (λ m n e. (so, t, e))))
+      meets-afterwards _ _ (Framing vars (backwards [] (ended text))) (Gives vars text) (walkLines (claimLine vars) 1 (ended text) ClaimDue) (λ s. claimEnd (unended text) s) (lines-meet (ended text)) (λ so g t.
+      meets-keeps _ _ (Gives vars text) (claimEnd (unended text) so) (end-meets text so t) (λ m n e. (so, t, e))))
+
+  pub gives-unique : (text : List ℕ) (m k : Claim) → Gives vars text m → Gives vars text k → m ≡ k
+  gives-unique text m k (so, t, p) (to, u, q) = let e : ClaimWhole m ≡ ClaimWhole k = sym p ∙ framing-unique (backwards [] (ended text)) so to t u ∙ q in cc

@@ -1,33 +1,30 @@
 -- What a line of a deck holds is read exactly where its characters write it: the reader of a line, its judgement apart.
-use mathlib.Core.Path.{_≡_, refl, sym, ap, _∙_, subst}
-use mathlib.Core.Logic.{_⊎_, inl, inr, ⊎-elim, _↔_}
+use mathlib.Core.Path.{_≡_, refl, sym, ap, _∙_}
+use mathlib.Core.Logic.{_⊎_, inl, inr, ⊎-elim}
 use mathlib.Core.Bool.{Bool, true, false, not, _||_}
 use mathlib.Core.List.{List, [], _∷_, _++_}
 use mathlib.Core.Option.{Option, none, some}
-use Prim.Native.Nat.{ℕ, zero, suc, _+_, _^_, _<_, _≤_}
+use Prim.Native.Nat.{ℕ, _+_, _<_, _≤_}
 use native.Mathlib.Omega.{arith}
-use borrow.Author.Tests.{lt-ltb, le-ltb, ltb-true, ltb-false, eq-eqb, eqb-true, eqb-false, not-false}
+use borrow.Author.Tests.{lt-ltb, le-ltb, ltb-true, ltb-false, eq-eqb, eqb-true, not-false}
 use lib.Dec.{ltb, eqb}
 use lib.ListN.{length, drop}
-use Rattle.lists.specs.Lists.{stands, _among_}
+use Rattle.lists.specs.Lists.{stands}
 use Rattle.lists.proofs.Laws.{stands-false, false-stands}
 use Rattle.sets.specs.Sets.{inside}
-use Rattle.logic.specs.Expressions.{Expr, Const, nodes, written, code}
-use Rattle.logic.specs.Decks.{Equation, Deck, base}
+use Rattle.logic.specs.Expressions.{Expr, Const, nodes, written}
+use Rattle.logic.specs.Decks.{Deck, base}
 use Rattle.decks.specs.declared.Answer.{Answer}
 use Rattle.decks.specs.declared.Answer.the-variants.{BadFrame, TooDeep, Outside, ManyInitials, ManyNodes}
 use Rattle.decks.specs.Answers.{Outcome, Got, Refused, refuse, afterwards}
 use Rattle.frames.specs.Hex.{pair, pairs, byteOf, number}
-use Rattle.frames.specs.Written.{setBytes, setKind, initKind, equationKind, propertyKind, countKind, nodePairs}
+use Rattle.frames.specs.Written.{setBytes, setKind, initKind, equationKind, propertyKind, countKind}
 use Rattle.frames.specs.Read.{wholeExpr, wholeNumber, kindOf, Due, DueSet, DueInit, DueAny, DueEquation, DueCount, DueNone, Sofar, setLine, initLine, lastLeft, withEquation, equationLine, propertyLine, countLine, permits, frameLine, deckLine}
 use Rattle.frames.proofs.HexLaws.{byte-pair, pair-byte}
-use Rattle.frames.proofs.LineLaws.{kind-line, line-kind, whole-number-pairs, whole-number-got, whole-expr-pairs, whole-expr-got}
-use Rattle.decks.proofs.Outcomes.{refused-got}
-use Rattle.refusals.specs.FrameFaults.{TooFarDown, Frame, SetFrame, InitFrame, EquationFrame, PropertyFrame, CountFrame, EquationDue, Permits, WritesFrame, InPlace, Holds, DeepLine, added}
+use Rattle.frames.proofs.LineLaws.{refused-got, kind-line, line-kind, whole-number-pairs, whole-number-got, whole-expr-pairs, whole-expr-got}
+use Rattle.refusals.specs.FrameFaults.{Frame, SetFrame, InitFrame, EquationFrame, PropertyFrame, CountFrame, EquationDue, Permits, Holds, DeepLine, added}
+use Rattle.refusals.proofs.OrderLaws.{true-false}
 use Rattle.refusals.proofs.PairsDeep.{far-refused, expr-refused}
-
-true-false : {P : Type 0} → true ≡ false → P
-true-false e = let z : _≡_ {A = ℕ} 0 1 = cc in absurd (omega arith)
 
 -- ---- the reader of a line, its judgement apart
 

@@ -1,36 +1,32 @@
 -- A deck in frames is refused exactly where one of its conditions is the first that holds.
 use mathlib.Core.Path.{_≡_, refl, sym, ap, _∙_, subst}
-use mathlib.Core.Logic.{_⊎_, inl, inr, ⊎-elim, _↔_}
+use mathlib.Core.Logic.{inl, inr, ⊎-elim, _↔_}
 use mathlib.Core.Bool.{Bool, true, false, not}
 use mathlib.Core.List.{List, [], _∷_}
-use Prim.Native.Nat.{ℕ, suc, _+_, _^_, _<_, _≤_}
+use Prim.Native.Nat.{ℕ, suc, _+_, _^_, _<_}
 use native.Mathlib.Omega.{arith}
 use borrow.Author.Tests.{ltb-true, ltb-false, not-false, not-true}
 use lib.Dec.{ltb}
 use lib.ListN.{length}
 use Rattle.lists.specs.Lists.{ended, unended}
-use Rattle.sets.specs.Sets.{_∋_, _⊆_, has, inside}
+use Rattle.sets.specs.Sets.{_∋_, has, inside}
 use Rattle.sets.proofs.Laws.{true-has, has-true, true-inside, false-inside}
-use Rattle.logic.specs.Expressions.{nodes, written, temporal, Plain}
+use Rattle.logic.specs.Expressions.{nodes, written, temporal}
 use Rattle.logic.specs.Decks.{Equation, Deck, base, totalNodes}
-use Rattle.decks.specs.declared.Answer.{Answer}
-use Rattle.decks.specs.declared.Answer.the-variants.{TooLong, BadFrame, Outside, Temporal, TooDeep, ManyInitials, ManyEquations, ManyNodes, NoEquation}
+use Rattle.decks.specs.declared.Answer.the-variants.{BadFrame, Outside, Temporal, TooDeep, ManyInitials, ManyEquations, ManyNodes, NoEquation}
 use Rattle.decks.specs.Answers.{Outcome, Got, Refused, refuse, afterwards}
-use Rattle.decks.specs.Readings.{walk, walk as walkLines, complete}
-use Rattle.frames.specs.Written.{setBytes}
-use Rattle.frames.specs.Read.{Due, DueSet, DueInit, DueAny, DueEquation, DueCount, DueNone, Sofar, begun, withEquation, deckLine, deckEnd, readDeck}
-use Rattle.decks.proofs.Outcomes.{refused-got, got-eq}
-use Rattle.logic.proofs.Rights.{plain-temporal, temporal-plain}
-use Rattle.decks.proofs.Complete.{HasEquation}
-use Rattle.refusals.specs.Order.{Conditions, Done, Try, FirstOf, NoneOf, followed, oneByOne, backwards, rising}
+use Rattle.decks.specs.Readings.{walk}
+use Rattle.frames.specs.Read.{walk as walkLines, Due, DueSet, DueInit, DueAny, DueEquation, DueCount, DueNone, Sofar, begun, withEquation, deckLine, complete, deckEnd, readDeck}
+use Rattle.frames.proofs.LineLaws.{refused-got}
+use Rattle.frames.proofs.DeckLaws.{plain-temporal, temporal-plain}
+use Rattle.frames.proofs.LeftLaws.{HasEquation}
+use Rattle.cards.proofs.Outcomes.{got-eq}
+use Rattle.refusals.specs.Order.{Conditions, Done, Try, oneByOne, backwards, rising}
 use Rattle.refusals.specs.FrameFaults.{Frame, SetFrame, InitFrame, EquationFrame, PropertyFrame, CountFrame, WritesFrame, Holds, DeepLine, NoFrame, UsesOutside, NotPlain, InitialOver, EquationOver, NodesOver, frameFaults, added, Framing, Behind, Holding, lineFaults}
-use Rattle.refusals.specs.FramesOrder.{EndsEarly, Lacking, framesOrder}
-use Rattle.refusals.proofs.OrderLaws.{Meets, meets-is, meets-here, meets-past, meets-test, meets-got, meets-keeps, meets-afterwards, alike-meets, meets-walk, rising-alike}
+use Rattle.refusals.specs.FramesOrder.{EndsEarly, Lacking, framesOrder, Gives}
+use Rattle.refusals.proofs.OrderLaws.{true-false, Meets, meets-is, meets-here, meets-past, meets-test, meets-got, meets-keeps, meets-afterwards, alike-meets, meets-walk, rising-alike}
 use Rattle.refusals.proofs.Lacking.{Without, complete-meets}
 use Rattle.refusals.proofs.Frames.{frameRead, judged, line-judges, holds-read, deep-read, Comes, line-comes}
-
-true-false : {P : Type 0} → true ≡ false → P
-true-false e = let z : _≡_ {A = ℕ} 0 1 = cc in absurd (omega arith)
 
 -- The walk over lines is the walk over any list.
 module _ {S : Type 0} (f : ℕ → List ℕ → S → Outcome S) where
@@ -205,13 +201,12 @@ module _ (text : List ℕ) (so : Sofar) (t : Framing (backwards [] (ended text))
 
 -- ---- a deck in frames
 
--- Its lines give this deck.
-abbrev pub Gives : List ℕ → Deck → Type 0
-Gives text d = Behind (backwards [] (ended text)) (λ so. d ≡ so .deck)
-
 pub frames-meet : (text : List ℕ) → Meets (framesOrder text) (Gives text) (readDeck text)
 unfolding readDeck
 frames-meet text =
     meets-test _ _ _ _ (ltb (base .text) (length text)) _ (ltb-true (base .text) (length text)) (λ e h. omega (arith, ltb-false (base .text) (length text) e)) (λ e.
     meets-afterwards _ _ (Framing (backwards [] (ended text))) (Gives text) (walkLines deckLine 1 (ended text) begun) (λ s. deckEnd (unended text) s) (lines-meet (ended text)) (λ so g t.
     meets-keeps _ _ (Gives text) (deckEnd (unended text) so) (end-meets text so t) (λ d n e. (so, t, e))))
+
+pub gives-unique : (text : List ℕ) (d e : Deck) → Gives text d → Gives text e → d ≡ e
+gives-unique text d e (so, t, p) (to, u, q) = p ∙ ap (λ (s : Sofar). s .deck) (framing-unique (backwards [] (ended text)) so to t u) ∙ sym q

@@ -1,30 +1,29 @@
 -- What a statement says is read exactly where its characters spell it: the reader of a statement, its judgement apart.
-use mathlib.Core.Path.{_≡_, refl, sym, ap, _∙_, subst}
-use mathlib.Core.Logic.{_⊎_, inl, inr, ⊎-elim, _↔_}
+use mathlib.Core.Path.{_≡_, refl, sym, ap, _∙_}
+use mathlib.Core.Logic.{_⊎_, inl, inr, ⊎-elim}
 use mathlib.Core.Bool.{Bool, true, false, not}
 use mathlib.Core.List.{List, [], _∷_, _++_, append-nil}
 use mathlib.Core.Option.{Option, none, some}
-use Prim.Native.Nat.{ℕ, zero, suc, _+_, _^_, _<_, _≤_}
+use Prim.Native.Nat.{ℕ, _+_, _<_}
 use native.Mathlib.Omega.{arith}
 use lib.Dec.{ltb}
 use lib.ListN.{length}
-use borrow.Author.Tests.{ltb-true, ltb-false}
 use Rattle.lists.specs.Texts.{bytes}
 use Rattle.sets.specs.Sets.{inside}
-use Rattle.logic.specs.Expressions.{Expr, nodes, levels, written, decimal, spelling, Below}
-use Rattle.logic.specs.Decks.{Equation, base}
+use Rattle.logic.specs.Expressions.{Expr, nodes, levels, written, decimal, spelling}
+use Rattle.logic.specs.Decks.{base}
 use Rattle.logic.proofs.Spelling.{NoDigit}
 use Rattle.decks.specs.declared.Answer.{Answer}
 use Rattle.decks.specs.declared.Answer.the-variants.{NotDue, TooDeep, Outside, ManyInitials, ManyNodes}
 use Rattle.decks.specs.Readings.{Reading, Whole, Wrong, Deep}
 use Rattle.decks.specs.Answers.{Outcome, Got, Refused, refuse, afterwards}
 use Rattle.cards.specs.Grammar.{Counted, Number, NoNumber, readNumber, readExpr}
-use Rattle.cards.specs.Typed.{Typed, binaryFrom, initSpelt, equationSpelt, firstVars}
+use Rattle.cards.specs.Typed.{Typed, binaryFrom, equationSpelt, firstVars}
 use Rattle.cards.specs.Read.{behind, Due, DueVars, DueInit, DueAny, DueEquation, DueEnd, DueNone, Sofar, wholeExpr, wholeNumber, varsStatement, readBinary, initStatement, withEquation, equationStatement, propStatement, endStatement, equationOrProp, dueStatement}
-use Rattle.decks.proofs.Outcomes.{refused-got, got-eq}
+use Rattle.cards.proofs.Outcomes.{refused-got}
 use Rattle.cards.proofs.GrammarLaws.{decimal-read, read-decimal}
-use Rattle.cards.proofs.WordLaws.{none-some, some-eq, word-behind, behind-word, whole-number-spelt, whole-number-got, whole-expr-spelt, whole-expr-got, binary-read, read-binary}
-use Rattle.cards.proofs.ExactlyWhen.{TooFar, too-deep-exactly, wrong-exactly}
+use Rattle.cards.proofs.WordLaws.{word-behind, behind-word, whole-number-spelt, whole-number-got, whole-expr-spelt, whole-expr-got, binary-read, read-binary}
+use Rattle.cards.proofs.ExactlyWhen.{TooFar, too-deep-exactly}
 use Rattle.refusals.specs.StatementFaults.{Item, Count, Initial, Equals, Property, Ending, EquationDue, Permits, SpellsItem, DeepIn, added}
 
 -- ---- the reader of a statement, its judgement apart

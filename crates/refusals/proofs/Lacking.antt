@@ -1,22 +1,17 @@
 -- 15 is given exactly where a variable has no equation, and names the lowest.
-use mathlib.Core.Path.{_≡_, refl, sym, ap, _∙_, subst}
-use mathlib.Core.Logic.{_⊎_, inl, inr, ⊎-elim}
-use mathlib.Core.Bool.{Bool, true, false}
+use mathlib.Core.Path.{_≡_, refl, sym, ap, subst}
 use mathlib.Core.List.{List, [], _∷_}
-use Prim.Native.Nat.{ℕ, _+_, _^_, _<_, _≤_}
+use Prim.Native.Nat.{ℕ, _^_, _<_}
 use native.Mathlib.Omega.{arith}
-use lib.Dec.{eqb}
-use borrow.Author.Tests.{eq-eqb}
-use Rattle.lists.specs.Lists.{Some, keep}
 use Rattle.sets.specs.Sets.{_∋_, only, union}
 use Rattle.sets.proofs.Laws.{member-lt}
 use Rattle.logic.specs.Decks.{Equation, Deck, base}
-use Rattle.decks.specs.declared.Answer.{Answer}
 use Rattle.decks.specs.declared.Answer.the-variants.{NoEquation}
 use Rattle.decks.specs.Answers.{Outcome, Got, Refused}
-use Rattle.decks.specs.Readings.{leftSet, complete, leftSet as frameLeftSet, complete as frameComplete}
-use Rattle.decks.proofs.Complete.{HasEquation, AllHave, all-complete, LowestWithout, refused-lowest}
-use Rattle.refusals.specs.Order.{Conditions, FirstOf, NoneOf, rising}
+use Rattle.decks.specs.Readings.{leftSet, complete}
+use Rattle.frames.specs.Read.{leftSet as frameLeftSet, complete as frameComplete}
+use Rattle.frames.proofs.LeftLaws.{HasEquation, all-complete, refused-lowest}
+use Rattle.refusals.specs.Order.{FirstOf, rising}
 use Rattle.refusals.proofs.OrderLaws.{Meets, rising-first, rising-none}
 
 left-set-same : (qs : List Equation) → leftSet qs ≡ frameLeftSet qs

@@ -1,30 +1,29 @@
 -- Laws of the operations on a deck that is read: their refusals stand behind the reader's.
 use mathlib.Core.Path.{_≡_, refl, sym, ap, _∙_, subst}
 use mathlib.Core.Logic.{_⊎_, inl, inr, ⊎-elim, by-cases, _↔_}
-use mathlib.Core.Bool.{Bool, true, false}
 use mathlib.Core.List.{List}
-use Prim.Native.Nat.{ℕ, suc, _+_, _^_, _<_, _≤_}
+use Prim.Native.Nat.{ℕ, _+_, _^_, _<_}
 use native.Mathlib.Omega.{arith}
 use native.Mathlib.Decide.{decLt}
 use borrow.Author.Tests.{lt-ltb, le-ltb}
 use lib.ListN.{length}
 use Rattle.lists.specs.Lists.{Each, _among_}
-use Rattle.sets.specs.Sets.{_∋_, _⊆_, without}
+use Rattle.sets.specs.Sets.{_∋_, _⊆_}
 use Rattle.sets.proofs.Laws.{subset-dec, member-lt, without-left, without-out, without-in}
 use Rattle.logic.specs.Decks.{Deck, base}
 use Rattle.logic.specs.Meaning.{Claim, Sized, RunOf, Holds, stateOf, claimRun, position}
 use Rattle.logic.specs.Verdicts.{Verdict, Breaking, NotInitial as NotInitialState, NoStep as NoSuchStep, Holding as HoldingProperty, verdict}
 use Rattle.logic.proofs.Verdict.{ClaimStep, position-is, accepted-exactly-when, refused-20-exactly-when, refused-21-exactly-when, refused-22-exactly-when}
 use Rattle.decks.specs.declared.Answer.{Answer}
-use Rattle.decks.specs.declared.Answer.the-variants.{Fine, Outside, NoRoom, NotInitial, NoStep, Holding}
+use Rattle.decks.specs.declared.Answer.the-variants.{Fine, Outside, NoStep, Holding}
 use Rattle.decks.specs.Answers.{Outcome, Got, Refused}
 use Rattle.texts.specs.Texts.{filled}
 use Rattle.cones.specs.Cone.{lowestOutside, coneRead}
 use Rattle.cones.proofs.Answers.{read-cone, read-outside, outside-lowest}
 use Rattle.pieces.specs.Reduced.{pieceBytes, reduced}
 use Rattle.claims.specs.Checked.{verdictAnswer}
-use Rattle.decks.proofs.Outcomes.{refused-got, got-eq}
-use Rattle.refusals.specs.Order.{Conditions, Done, Try, FirstOf, NoneOf, followed, rising}
+use Rattle.cards.proofs.Outcomes.{refused-got, got-eq}
+use Rattle.refusals.specs.Order.{Conditions, Done, Try, FirstOf, NoneOf, rising}
 use Rattle.refusals.specs.OperationsOrder.{answerTo, coneOrder, roomOrder, verdictOrder}
 use Rattle.refusals.proofs.OrderLaws.{Meets, first-unique, first-none, first-left, first-right, none-both, rising-first, rising-none}
 

@@ -1,8 +1,8 @@
 -- Laws of conditions in an order: a reader that meets them refuses exactly where one of them is the first that holds.
 use mathlib.Core.Path.{_≡_, refl, sym, ap, _∙_, subst}
 use mathlib.Core.Logic.{_⊎_, inl, inr, ⊎-elim, by-cases, _↔_}
-use mathlib.Core.Bool.{Bool, true, false, not}
-use mathlib.Core.List.{List, [], _∷_}
+use mathlib.Core.Bool.{Bool, true, false}
+use mathlib.Core.List.{List, [], _∷_, _++_}
 use Prim.Native.Nat.{ℕ, zero, suc, _+_, _<_, _≤_}
 use native.Mathlib.Omega.{arith}
 use lib.ListN.{length}
@@ -12,6 +12,13 @@ use Rattle.decks.specs.Answers.{Outcome, Got, Refused, refuse, afterwards}
 use Rattle.decks.specs.Readings.{walk}
 use Rattle.decks.proofs.Outcomes.{refused-got, got-eq, walk-got, walk-refused}
 use Rattle.refusals.specs.Order.{Conditions, Done, Try, FirstOf, NoneOf, followed, oneByOne, backwards, rising}
+
+-- general:
+
+pub true-false : {P : Type 0} → true ≡ false → P
+true-false e = let z : _≡_ {A = ℕ} 0 1 = cc in absurd (omega arith)
+
+-- ---- the first that holds
 
 -- The first that holds is one.
 pub first-unique : (c : Conditions) (a b : Answer) → FirstOf c a → FirstOf c b → a ≡ b
@@ -41,6 +48,11 @@ unfolding followed
 none-both Done d n m = m
 none-both (Try P x cs) d (n, ns) m = (n, none-both cs d ns m)
 
+none-apart : (c d : Conditions) → NoneOf (followed c d) → NoneOf c × NoneOf d
+unfolding followed
+none-apart Done d n = (tt, n)
+none-apart (Try P x cs) d (n, ns) = let (l, r) = none-apart cs d ns in ((n, l), r)
+
 -- ---- readers that meet conditions
 
 -- The reader gives the answer of the first condition that holds; where none holds, a result with Q.
@@ -60,11 +72,11 @@ module _ {A : Type 0} where
   meets-exactly c Q (Got x) m a = (λ e. refused-got (sym e), λ f. absurd (first-none c a f (m .0)))
   meets-exactly c Q (Refused b) m a = (λ e. let same : b ≡ a = cc in subst (FirstOf c) same m, λ f. ap Refused (first-unique c b a m f))
 
-  -- A result comes exactly where no condition holds.
-  pub meets-none : (c : Conditions) (Q : A → Type 0) (r : Outcome A) → Meets c Q r → ((x : A) × (r ≡ Got x)) ↔ NoneOf c
+  -- Which result comes: the one with Q, where no condition holds.
+  pub meets-result : (c : Conditions) (Q : A → Type 0) (r : Outcome A) → Meets c Q r → ((x y : A) → Q x → Q y → x ≡ y) → (x : A) → (r ≡ Got x) ↔ (NoneOf c × Q x)
   unfolding Meets
-  meets-none c Q (Got x) m = (λ e. m .0, λ n. (x, refl))
-  meets-none c Q (Refused b) m = (λ (x, e). refused-got e, λ n. absurd (first-none c b m n))
+  meets-result c Q (Got y) (n, q) one x = (λ e. (n, subst Q (got-eq e) q), λ (m, p). ap Got (one y x q p))
+  meets-result c Q (Refused b) m one x = (λ e. refused-got e, λ (n, p). absurd (first-none c b m n))
 
   pub meets-is : (c : Conditions) (Q : A → Type 0) (r s : Outcome A) → r ≡ s → Meets c Q s → Meets c Q r
   meets-is c Q r s e m = subst (Meets c Q) (sym e) m
@@ -169,3 +181,66 @@ pub rising-alike : (P Q : ℕ → Type 0) (b : ℕ → Answer) (k v : ℕ) → (
 unfolding rising
 rising-alike P Q b zero v f = tt
 rising-alike P Q b (suc k) v f = (f v, refl, rising-alike P Q b k (suc v) f)
+
+-- ---- the first in words
+
+followed-apart : (c d : Conditions) (a : Answer) → FirstOf (followed c d) a → FirstOf c a ⊎ (NoneOf c × FirstOf d a)
+unfolding followed
+followed-apart Done d a f = inr (tt, f)
+followed-apart (Try P b cs) d a (inl h) = inl (inl h)
+followed-apart (Try P b cs) d a (inr (n, f)) = ⊎-elim (λ g. inl (inr (n, g))) (λ (m, g). inr ((n, m), g)) (followed-apart cs d a f)
+
+-- One order behind the other: it is the first of the one, or none of the one holds and it is the first of the other.
+pub followed-exactly : (c d : Conditions) (a : Answer) → FirstOf (followed c d) a ↔ (FirstOf c a ⊎ (NoneOf c × FirstOf d a))
+followed-exactly c d a = (followed-apart c d a, ⊎-elim (first-left c d a) (λ (n, f). first-right c d a n f))
+
+module _ {A : Type 0} (faults : ℕ → List A → A → Conditions) (a : Answer) where
+  -- One member has the first condition, and none before it has any.
+  abbrev pub AtOne : ℕ → List A → List A → Type 0
+  AtOne n back xs =
+      (before : List A)
+      × (x : A)
+      × (behind : List A)
+      × (xs ≡ before ++ x ∷ behind)
+      × NoneOf (oneByOne faults n back before)
+      × FirstOf (faults (n + length before) (backwards back before) x) a
+
+  first-at : (xs : List A) (n : ℕ) (back : List A) → FirstOf (oneByOne faults n back xs) a → AtOne n back xs
+  unfolding oneByOne backwards
+  first-at [] n back f = absurd f
+  first-at (x ∷ xs) n back f =
+      ⊎-elim
+      (λ g. let e : n ≡ n + 0 = omega arith in ([], x, xs, refl, tt, subst (λ (m : ℕ). FirstOf (faults m back x) a) e g))
+      (λ (none, g).
+      let (before, y, behind, e, more, h) = first-at xs (suc n) (x ∷ back) g in
+      let k : suc n + length before ≡ n + length (x ∷ before) = omega arith in
+      (x ∷ before, y, behind, ap (λ (l : List A). x ∷ l) e, none-both (faults n back x) _ none more, subst (λ (m : ℕ). FirstOf (faults m (backwards (x ∷ back) before) y) a) k h))
+      (followed-apart (faults n back x) (oneByOne faults (suc n) (x ∷ back) xs) a f)
+
+  at-first : (before : List A) (x : A) (behind : List A) (n : ℕ) (back : List A) → NoneOf (oneByOne faults n back before) → FirstOf (faults (n + length before) (backwards back before) x) a → FirstOf (oneByOne faults n back (before ++ x ∷ behind)) a
+  unfolding oneByOne backwards
+  at-first [] x behind n back none h = let e : n + 0 ≡ n = omega arith in first-left (faults n back x) _ a (subst (λ (m : ℕ). FirstOf (faults m back x) a) e h)
+  at-first (y ∷ before) x behind n back none h =
+      let k : n + length (y ∷ before) ≡ suc n + length before = omega arith in
+      let (here, more) = none-apart (faults n back y) (oneByOne faults (suc n) (y ∷ back) before) none in
+      first-right (faults n back y) _ a here (at-first before x behind (suc n) (y ∷ back) more (subst (λ (m : ℕ). FirstOf (faults m (backwards (y ∷ back) before) x) a) k h))
+
+  pub one-by-one-exactly : (n : ℕ) (back xs : List A) → FirstOf (oneByOne faults n back xs) a ↔ AtOne n back xs
+  one-by-one-exactly n back xs = (
+    first-at xs n back,
+    λ (before, x, behind, e, none, h). subst (λ (l : List A). FirstOf (oneByOne faults n back l) a) (sym e) (at-first before x behind n back none h),
+  )
+
+-- By rising number: it is the lowest whose condition holds.
+rising-lowest : (P : ℕ → Type 0) (b : ℕ → Answer) (k v : ℕ) (a : Answer) → FirstOf (rising P b k v) a → (w : ℕ) × (v ≤ w) × (w < v + k) × P w × ((u : ℕ) → v ≤ u → u < w → P u → ⊥) × (a ≡ b w)
+unfolding rising
+rising-lowest P b zero v a f = absurd f
+rising-lowest P b (suc k) v a (inl (p, e)) = (v, omega arith, omega arith, p, (λ u l h q. omega arith), e)
+rising-lowest P b (suc k) v a (inr (n, f)) =
+    let (w, l, h, p, low, e) = rising-lowest P b k (suc v) a f in
+    (w, omega arith, omega arith, p, (λ u m i q. by-cases (ℕ-discrete u v) (λ s. n (subst P s q)) (λ o. low u (omega arith) i q)), e)
+
+pub rising-exactly : (P : ℕ → Type 0) (b : ℕ → Answer) (k v : ℕ) (a : Answer)
+    → FirstOf (rising P b k v) a
+    ↔ ((w : ℕ) × (v ≤ w) × (w < v + k) × P w × ((u : ℕ) → v ≤ u → u < w → P u → ⊥) × (a ≡ b w))
+rising-exactly P b k v a = (rising-lowest P b k v a, λ (w, l, h, p, low, e). subst (FirstOf (rising P b k v)) (sym e) (rising-first P b k v w l h p low))

@@ -1,36 +1,31 @@
 -- The walk over the statements refuses exactly where a fault of 8 to 14 is the first.
 use mathlib.Core.Path.{_≡_, refl, sym, ap, _∙_, subst}
-use mathlib.Core.Logic.{_⊎_, inl, inr, ⊎-elim, by-cases, _↔_}
+use mathlib.Core.Logic.{inl, inr, ⊎-elim, by-cases, _↔_}
 use mathlib.Core.Bool.{Bool, true, false, not}
-use mathlib.Core.List.{List, [], _∷_, _++_}
-use Prim.Native.Nat.{ℕ, suc, _+_, _^_, _<_, _≤_}
+use mathlib.Core.List.{List, [], _∷_}
+use Prim.Native.Nat.{ℕ, suc, _+_, _^_, _<_}
 use native.Mathlib.Omega.{arith}
 use native.Mathlib.Decide.{decLt}
 use borrow.Author.Tests.{ltb-true, ltb-false, not-false, not-true}
 use lib.Dec.{ltb}
 use lib.ListN.{length}
 use lib.Pow.{pow-lt}
-use Rattle.sets.specs.Sets.{_⊆_, _∋_, has, inside}
+use Rattle.sets.specs.Sets.{_∋_, has, inside}
 use Rattle.sets.proofs.Laws.{bit-only, true-has, has-true, true-inside, false-inside}
-use Rattle.logic.specs.Expressions.{nodes, written, temporal, Plain}
+use Rattle.logic.specs.Expressions.{nodes, written, temporal}
 use Rattle.logic.specs.Decks.{Equation, base, totalNodes}
-use Rattle.decks.specs.declared.Answer.{Answer}
 use Rattle.decks.specs.declared.Answer.the-variants.{NotDue, Outside, Temporal, TooDeep, ManyInitials, ManyEquations, ManyNodes}
 use Rattle.decks.specs.Answers.{Outcome, Got, Refused, refuse, afterwards}
 use Rattle.decks.specs.Readings.{walk}
 use Rattle.cards.specs.Statement.{Statement, inked}
 use Rattle.cards.specs.Typed.{Typed, firstVars}
-use Rattle.cards.specs.Read.{Due, Sofar, begun, withEquation, dueStatement, statementRead}
-use Rattle.decks.proofs.Outcomes.{refused-got, got-eq}
-use Rattle.cards.proofs.TypedLaws.{member-first-vars, below-subset}
-use Rattle.logic.proofs.Rights.{plain-temporal, temporal-plain}
-use Rattle.refusals.specs.Order.{Conditions, Done, Try, FirstOf, NoneOf, oneByOne, backwards}
-use Rattle.refusals.specs.StatementFaults.{Item, Count, Initial, Equals, Property, Ending, Permits, SpellsItem, Says, DeepIn, NoForm, UsesOutside, NotPlain, InitialOver, EquationOver, NodesOver, itemFaults, added, Typing, Behind, Saying, statementFaults}
-use Rattle.refusals.proofs.OrderLaws.{Meets, meets-exactly, meets-is, meets-here, meets-past, meets-test, meets-got, meets-keeps, alike-meets, meets-walk}
+use Rattle.cards.specs.Read.{Sofar, begun, withEquation, statementRead}
+use Rattle.cards.proofs.Outcomes.{refused-got, got-eq}
+use Rattle.cards.proofs.TypedLaws.{plain-temporal, temporal-plain, member-first-vars, below-subset}
+use Rattle.refusals.specs.Order.{Conditions, Done, Try, oneByOne, backwards}
+use Rattle.refusals.specs.StatementFaults.{Item, Count, Initial, Equals, Property, Ending, Says, DeepIn, NoForm, UsesOutside, NotPlain, InitialOver, EquationOver, NodesOver, itemFaults, added, Typing, Behind, Saying, statementFaults}
+use Rattle.refusals.proofs.OrderLaws.{true-false, Meets, meets-is, meets-here, meets-past, meets-test, meets-got, meets-keeps, alike-meets, meets-walk}
 use Rattle.refusals.proofs.Items.{itemRead, judged, due-judges, spelt-item, deep-item, Comes, item-comes}
-
-true-false : {P : Type 0} → true ≡ false → P
-true-false e = let z : _≡_ {A = ℕ} 0 1 = cc in absurd (omega arith)
 
 -- ---- the judgement of one item
 

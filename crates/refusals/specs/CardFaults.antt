@@ -1,7 +1,7 @@
 -- The faults of a card, 2 to 7: conditions on its columns and on the cards before it.
 use mathlib.Core.Path.{_≡_}
 use mathlib.Core.Logic.{_⊎_}
-use mathlib.Core.Bool.{Bool, true, false}
+use mathlib.Core.Bool.{false}
 use mathlib.Core.List.{List, [], _∷_}
 use Prim.Native.Nat.{ℕ, zero, suc, _<_, _≤_}
 use Prim.Native.Char.{code as character}
@@ -9,7 +9,7 @@ use lib.ListN.{length}
 use Rattle.lists.specs.Lists.{Some}
 use Rattle.decks.specs.declared.Answer.the-variants.{BadByte, TooWide, BadStart, BadNumber, NoneOpen, TooManyCards}
 use Rattle.cards.specs.Columns.{punched, remark}
-use Rattle.cards.specs.Card.{continuations, Kind, Opening, Continuing, kindOf}
+use Rattle.cards.specs.Card.{continuations}
 use Rattle.refusals.specs.Order.{Conditions, Done, Try}
 
 -- 2: a byte outside 32..126.

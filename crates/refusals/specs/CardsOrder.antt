@@ -4,10 +4,11 @@ use mathlib.Core.List.{List, []}
 use Prim.Native.Nat.{ℕ, _<_}
 use lib.ListN.{length}
 use Rattle.lists.specs.Lists.{Some}
-use Rattle.logic.specs.Decks.{Equation, base}
+use Rattle.logic.specs.Decks.{Equation, Deck, base}
 use Rattle.decks.specs.declared.Answer.the-variants.{TooLong, NotDue, NoEquation}
 use Rattle.cards.specs.Card.{cardsOf}
 use Rattle.cards.specs.Statement.{Statement, statementsOf}
+use Rattle.cards.specs.Typed.{deckOf}
 use Rattle.cards.specs.Read.{DueNone}
 use Rattle.refusals.specs.Order.{Conditions, Try, followed, oneByOne, backwards, rising}
 use Rattle.refusals.specs.CardFaults.{cardFaults}
@@ -28,3 +29,7 @@ cardsOrder text =
     (followed (oneByOne cardFaults 1 [] (cardsOf text))
     (followed (oneByOne statementFaults 1 [] (statementsOf (cardsOf text)))
     (Try (Missing (backwards [] (statementsOf (cardsOf text)))) (NotDue 0) (rising (Lacking (backwards [] (statementsOf (cardsOf text)))) NoEquation (base .variables) 0))))
+
+-- What is typed with all its statements gives this deck.
+abbrev pub Gives : List ℕ → Deck → Type 0
+Gives text d = Behind (backwards [] (statementsOf (cardsOf text))) (λ so. d ≡ deckOf (so .typed))

@@ -12,7 +12,7 @@ use Rattle.decks.specs.declared.Answer.the-variants.{TooLong, BadFrame, Outside
 use Rattle.frames.specs.Hex.{pair, pairs}
 use Rattle.frames.specs.Written.{setBytes, claimKind, stateKind, claimCountKind}
 use Rattle.frames.specs.Read.{ClaimSofar, ClaimDue, StatesDue, ClaimWhole}
-use Rattle.refusals.specs.Order.{Conditions, Done, Try, NoneOf, followed, oneByOne, backwards}
+use Rattle.refusals.specs.Order.{Conditions, Done, Try, followed, oneByOne, backwards}
 
 -- What a line holds: 11 with p and c; behind the claim so far, 12 with a state, or 15 with a count.
 pub data ClaimFrame : Type 0 where
@@ -62,3 +62,7 @@ ClaimEndsEarly vars text = (unended text ≡ [] → ⊥) ⊎ Behind vars (backwa
 abbrev pub claimOrder : ℕ → List ℕ → Conditions
 claimOrder vars text =
     Try (base .text < length text) (TooLong 2) (followed (oneByOne (claimFaults vars) 1 [] (ended text)) (Try (ClaimEndsEarly vars text) (BadFrame 2 0) Done))
+
+-- Its lines give this claim.
+abbrev pub Gives : ℕ → List ℕ → Claim → Type 0
+Gives vars text m = Behind vars (backwards [] (ended text)) (λ so. so ≡ ClaimWhole m)

@@ -6,7 +6,7 @@ use Prim.Native.Nat.{ℕ, _<_}
 use lib.ListN.{length}
 use Rattle.lists.specs.Lists.{Some, ended, unended}
 use Rattle.sets.specs.Sets.{_∋_}
-use Rattle.logic.specs.Decks.{Equation, base}
+use Rattle.logic.specs.Decks.{Equation, Deck, base}
 use Rattle.decks.specs.declared.Answer.the-variants.{TooLong, BadFrame, NoEquation}
 use Rattle.frames.specs.Read.{DueNone}
 use Rattle.refusals.specs.Order.{Conditions, Try, followed, oneByOne, backwards, rising}
@@ -25,3 +25,7 @@ abbrev pub framesOrder : List ℕ → Conditions
 framesOrder text =
     Try (base .text < length text) (TooLong 1)
     (followed (oneByOne lineFaults 1 [] (ended text)) (Try (EndsEarly text) (BadFrame 1 0) (rising (Lacking text) NoEquation (base .variables) 0)))
+
+-- Its lines give this deck.
+abbrev pub Gives : List ℕ → Deck → Type 0
+Gives text d = Behind (backwards [] (ended text)) (λ so. d ≡ so .deck)

@@ -4,7 +4,6 @@ use mathlib.Core.Logic.{_⊎_}
 use mathlib.Core.List.{List, [], _∷_, _++_}
 use Prim.Native.Nat.{ℕ, _+_, _^_, _<_, _≤_}
 use lib.ListN.{length}
-use Rattle.lists.specs.Lists.{Some}
 use Rattle.lists.specs.Texts.{bytes}
 use Rattle.sets.specs.Sets.{_⊆_}
 use Rattle.logic.specs.Expressions.{Expr, nodes, levels, written, Plain, decimal, spelling, Below}
