@@ -3,7 +3,6 @@ use mathlib.Core.Path.{_≡_}
 use lib.ListN.{length}
 use Rattle.bundle.proofs.next_number.Statement.{statement}
 use Rattle.bundle.proofs.next_number.Tie as tie
-use Rattle.std.proofs.num.wrapping_add_u64.Reads as wrapping-add-u64-reads
 
 abbrev Inv-loop : tie.InvT-loop
 Inv-loop fd buffer₀ k stream₀ value₀ left₀ buffer stream value left = length buffer ≡ length buffer₀

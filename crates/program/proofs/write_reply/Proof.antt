@@ -1,0 +1,33 @@
+use borrow.Author.Needs.{needs}
+use Rattle.io.proofs.Counting.{front}
+use Rattle.program.proofs.write_reply.Statement.{statement}
+use Rattle.program.proofs.write_reply.Tie as tie
+
+slice-aggregate-write-all : tie.Need-slice-aggregate-write-all
+slice-aggregate-write-all c = search (needs, front)
+
+write-all-requires : tie.Need-write-all-requires
+write-all-requires c κs = search needs
+
+returns : tie.Need-returns
+returns c = search needs
+
+slice-aggregate-write-all-2 : tie.Need-slice-aggregate-write-all-2
+slice-aggregate-write-all-2 c = search needs
+
+write-all-requires-2 : tie.Need-write-all-requires-2
+write-all-requires-2 c κs = search needs
+
+returns-2 : tie.Need-returns-2
+returns-2 c = search needs
+
+pub write-reply-spec : {M : Type 1} → statement M
+write-reply-spec =
+    tie.close
+    (tie.spec
+    slice-aggregate-write-all
+    write-all-requires
+    returns
+    slice-aggregate-write-all-2
+    write-all-requires-2
+    returns-2)
