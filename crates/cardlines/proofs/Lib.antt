@@ -1,0 +1,5 @@
+pub mod Rows
+pub mod Laws
+pub mod Written
+pub mod Equations
+pub mod Dispatch
