@@ -7,13 +7,12 @@ use Prim.Native.Nat.{ℕ, _+_, _-_, _<_, _≤_}
 use native.Mathlib.Omega.{arith}
 use lib.ListN.{length, take, drop, set, length-append}
 use borrow.Author.Tests.{lt-ltb, le-ltb}
-use Rattle.lists.specs.Lists.{chosen, padded, splice}
+use Rattle.lists.specs.Lists.{chosen, padded, splice, part}
 use Rattle.lists.specs.Texts.{bytes}
 use Rattle.sets.specs.Sets.{has, inside}
 use Rattle.logic.specs.Expressions.{Expr, nodes, written, temporal, code}
 use Rattle.logic.specs.Decks.{Equation, totalNodes}
 use Rattle.logic.proofs.Codes.{length-code}
-use Rattle.terms.specs.Nodes.{part}
 use Rattle.decks.specs.declared.Answer.{Answer}
 use Rattle.decks.specs.declared.Answer.the-variants.{Fine, NotDue, Outside, Temporal, ManyEquations, ManyNodes}
 use Rattle.decks.specs.Answers.{Outcome, Got, Refused, refuse, afterwards}

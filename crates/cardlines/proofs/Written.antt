@@ -10,19 +10,19 @@ use lib.Dec.{ltb}
 use lib.ListN.{length, take, drop}
 use lib.Seq.{take-append-seam}
 use borrow.Author.Tests.{lt-ltb, le-ltb}
-use Rattle.lists.specs.Lists.{splice}
+use Rattle.lists.specs.Lists.{splice, part}
 use Rattle.sets.specs.Sets.{_∋_, has, inside, only, union}
 use Rattle.sets.proofs.Laws.{inside-true, inside-false, true-inside, false-inside, union-least, union-left, union-right, subset-trans, bit-only, only-least, bit-zero, has-true, has-false, only-bit}
-use Rattle.logic.specs.Expressions.{Op1, Not, Next, Future, Always, Op2, And, Or, Until, Weak, Expr, Const, Var, One, Two, nodes, written, temporal, code, constNode, node1, node2}
-use Rattle.logic.proofs.Codes.{Narrow, below-more, length-code}
-use Rattle.terms.specs.Nodes.{variable?, part, someTemporal, plain?}
-use Rattle.terms.proofs.Trees.{temporal-code, plain-true, true-plain}
+use Rattle.logic.specs.Expressions.{Op1, Not, Next, Future, Always, Op2, And, Or, Until, Weak, Expr, Const, Var, One, Two, nodes, written, temporal, code, constNode, node1, node2, Narrow}
+use Rattle.logic.proofs.Codes.{below-more, length-code}
+use Rattle.terms.specs.Nodes.{variable?, someTemporal}
+use Rattle.terms.proofs.Trees.{temporal-code}
 use Rattle.decks.specs.declared.Answer.{Answer}
 use Rattle.decks.specs.declared.Answer.the-variants.{Fine}
 use Rattle.decks.specs.Answers.{Outcome, Got, Refused}
 use Rattle.cards.specs.Typed.{firstVars}
 use Rattle.cards.specs.Read.{wholeExpr}
-use Rattle.cards.proofs.TypedLaws.{member-first-vars, below-subset, plain-temporal, temporal-plain}
+use Rattle.cards.proofs.TypedLaws.{member-first-vars, below-subset}
 use Rattle.cards.proofs.WordLaws.{whole-expr-got}
 use Rattle.grammar.specs.Ahead.{ahead}
 use Rattle.phrases.specs.declared.Phrase.{Phrase}
@@ -125,12 +125,7 @@ module _ (n : ℕ) where
       ∙ sym (inside-union (written a) (written b) (firstVars n))
 
 temporal-is : (e : Expr) → Narrow e → someTemporal (code e) ≡ temporal e
-temporal-is e w = temporal-code e w ∙ go (plain? e) (temporal e) refl refl
-  where
-    go : (x y : Bool) → plain? e ≡ x → temporal e ≡ y → not (plain? e) ≡ temporal e
-    go true y p q = ap not p ∙ sym (plain-temporal e (true-plain e p))
-    go false true p q = ap not p ∙ sym q
-    go false false p q = let z : false ≡ true = sym p ∙ plain-true e (temporal-plain e q) in let w : _≡_ {A = ℕ} 0 1 = cc in absurd (omega arith)
+temporal-is = temporal-code
 
 -- ---- the expression read
 

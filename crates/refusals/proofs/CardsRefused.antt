@@ -19,14 +19,14 @@ use Rattle.cards.specs.Typed.{Typed, deckOf}
 use Rattle.cards.specs.Read.{Due, DueVars, DueInit, DueAny, DueEquation, DueEnd, DueNone, Sofar, begun, statementRead, cardsEnd, readCards}
 use Rattle.cards.proofs.TypedLaws.{ofVariable, member-first-vars, first-vars-most}
 use Rattle.cards.proofs.NothingDropped.{equations-as-typed}
-use Rattle.frames.proofs.LeftLaws.{HasEquation}
+use Rattle.decks.proofs.Complete.{HasEquation}
 use Rattle.refusals.specs.Order.{Try, backwards, rising}
 use Rattle.refusals.specs.StatementFaults.{Item, Count, Initial, Equals, Property, Ending, SpellsItem, added, Typing}
 use Rattle.refusals.specs.CardsOrder.{Missing, Lacking, cardsOrder, Gives}
 use Rattle.refusals.proofs.OrderLaws.{Meets, meets-is, meets-here, meets-past, meets-test, meets-keeps, meets-afterwards, alike-meets, rising-alike}
 use Rattle.refusals.proofs.CardsInForm.{Stands, form-meets}
 use Rattle.refusals.proofs.Statements.{member-below, typing-unique, behind-is, statements-meet}
-use Rattle.refusals.proofs.Lacking.{complete-same, Without, complete-meets}
+use Rattle.refusals.proofs.Lacking.{Without, complete-meets}
 
 -- ---- the equations of the deck and those typed
 
@@ -104,8 +104,7 @@ module _ (back : List Statement) (so : Sofar) (t : Typing back so) where
       go DueEnd e = early (λ f. let z : DueEnd ≡ DueNone = sym e ∙ f in let z : _≡_ {A = ℕ} 0 1 = cc in omega arith)
       go DueNone e =
           meets-past _ _ _ _ _ (λ h. behind-is back so t (λ (s : Sofar). s .due ≡ DueNone → ⊥) h e)
-          (meets-is _ _ _ _ (complete-same (deckOf (so .typed)))
-          (alike-meets _ _ _ _ (rising-alike (Without (deckOf (so .typed))) (Lacking back) NoEquation (base .variables) 0 lacking-is) (complete-meets (deckOf (so .typed)) small)))
+          (alike-meets _ _ _ _ (rising-alike (Without (deckOf (so .typed))) (Lacking back) NoEquation (base .variables) 0 lacking-is) (complete-meets (deckOf (so .typed)) small))
 
 -- ---- a text of cards
 

@@ -19,14 +19,14 @@ use Rattle.decks.specs.declared.Answer.the-variants.{BadFrame, Outside}
 use Rattle.decks.specs.Answers.{Outcome, Got, Refused, refuse, afterwards}
 use Rattle.frames.specs.Hex.{pair, pairs, number}
 use Rattle.frames.specs.Written.{setBytes, claimKind, stateKind, claimCountKind}
-use Rattle.frames.specs.Read.{walk as walkLines, wholeNumber, kindOf, countLine, ClaimSofar, ClaimDue, StatesDue, ClaimWhole, sizesLine, stateLine, claimLine, claimEnd, readClaim}
+use Rattle.frames.specs.Read.{wholeNumber, kindOf, countLine, ClaimSofar, ClaimDue, StatesDue, ClaimWhole, sizesLine, stateLine, claimLine, claimEnd, readClaim}
+use Rattle.decks.specs.Readings.{walk}
 use Rattle.frames.proofs.HexLaws.{pairs-four}
-use Rattle.frames.proofs.LineLaws.{refused-got, kind-line, line-kind, whole-number-pairs, whole-number-got}
-use Rattle.cards.proofs.Outcomes.{got-eq}
+use Rattle.frames.proofs.LineLaws.{kind-line, line-kind, whole-number-pairs, whole-number-got}
+use Rattle.decks.proofs.Outcomes.{refused-got, got-eq}
 use Rattle.refusals.specs.Order.{Done, Try, oneByOne, backwards}
 use Rattle.refusals.specs.ClaimFaults.{ClaimFrame, Sizes, State, Closing, Holds, added, UsesOutside, Framing, Behind, claimFaults, ClaimEndsEarly, claimOrder, Gives}
 use Rattle.refusals.proofs.OrderLaws.{Meets, meets-is, meets-here, meets-past, meets-test, meets-got, meets-keeps, meets-afterwards, alike-meets, meets-walk}
-use Rattle.refusals.proofs.FramesRefused.{walk-same}
 
 -- ---- the reader of a line, its judgement apart
 
@@ -217,8 +217,8 @@ module _ (vars : ℕ) where
             (meets-keeps (Try (UsesOutside vars f) (Outside 2 n) Done) (λ to. to ≡ added f) (Framing vars (l ∷ back)) _ (frame-judged vars n f) (λ to m k. (so, f, t, c, m .0, k))))
         go (Refused a) e c = meets-is _ _ _ _ (ap Refused c) (meets-here _ _ _ _ (so, t, λ f y. refused-got (sym e ∙ holds-read n so l f y)))
 
-  lines-meet : (ls : List (List ℕ)) → Meets (oneByOne (claimFaults vars) 1 [] ls) (Framing vars (backwards [] ls)) (walkLines (claimLine vars) 1 ls ClaimDue)
-  lines-meet ls = meets-is _ _ _ _ (walk-same (claimLine vars) ls 1 ClaimDue) (meets-walk (claimLine vars) (claimFaults vars) (Framing vars) (λ back l so t. line-meets back so t l) ls [] ClaimDue refl)
+  lines-meet : (ls : List (List ℕ)) → Meets (oneByOne (claimFaults vars) 1 [] ls) (Framing vars (backwards [] ls)) (walk (claimLine vars) 1 ls ClaimDue)
+  lines-meet ls = meets-walk (claimLine vars) (claimFaults vars) (Framing vars) (λ back l so t. line-meets back so t l) ls [] ClaimDue refl
 
   -- ---- behind the last line
 
@@ -239,7 +239,7 @@ module _ (vars : ℕ) where
   unfolding readClaim
   claims-meet text =
       meets-test _ _ _ _ (ltb (base .text) (length text)) _ (ltb-true (base .text) (length text)) (λ e h. omega (arith, ltb-false (base .text) (length text) e)) (λ e.
-      meets-afterwards _ _ (Framing vars (backwards [] (ended text))) (Gives vars text) (walkLines (claimLine vars) 1 (ended text) ClaimDue) (λ s. claimEnd (unended text) s) (lines-meet (ended text)) (λ so g t.
+      meets-afterwards _ _ (Framing vars (backwards [] (ended text))) (Gives vars text) (walk (claimLine vars) 1 (ended text) ClaimDue) (λ s. claimEnd (unended text) s) (lines-meet (ended text)) (λ so g t.
       meets-keeps _ _ (Gives vars text) (claimEnd (unended text) so) (end-meets text so t) (λ m n e. (so, t, e))))
 
   pub gives-unique : (text : List ℕ) (m k : Claim) → Gives vars text m → Gives vars text k → m ≡ k

@@ -21,7 +21,8 @@ use Rattle.frames.specs.Hex.{pair, pairs, byteOf, number}
 use Rattle.frames.specs.Written.{setBytes, setKind, initKind, equationKind, propertyKind, countKind}
 use Rattle.frames.specs.Read.{wholeExpr, wholeNumber, kindOf, Due, DueSet, DueInit, DueAny, DueEquation, DueCount, DueNone, Sofar, setLine, initLine, lastLeft, withEquation, equationLine, propertyLine, countLine, permits, frameLine, deckLine}
 use Rattle.frames.proofs.HexLaws.{byte-pair, pair-byte}
-use Rattle.frames.proofs.LineLaws.{refused-got, kind-line, line-kind, whole-number-pairs, whole-number-got, whole-expr-pairs, whole-expr-got}
+use Rattle.frames.proofs.LineLaws.{kind-line, line-kind, whole-number-pairs, whole-number-got, whole-expr-pairs, whole-expr-got}
+use Rattle.decks.proofs.Outcomes.{refused-got}
 use Rattle.refusals.specs.FrameFaults.{Frame, SetFrame, InitFrame, EquationFrame, PropertyFrame, CountFrame, EquationDue, Permits, Holds, DeepLine, added}
 use Rattle.refusals.proofs.OrderLaws.{true-false}
 use Rattle.refusals.proofs.PairsDeep.{far-refused, expr-refused}

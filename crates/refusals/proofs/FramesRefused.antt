@@ -15,29 +15,17 @@ use Rattle.logic.specs.Expressions.{nodes, written, temporal}
 use Rattle.logic.specs.Decks.{Equation, Deck, base, totalNodes}
 use Rattle.decks.specs.declared.Answer.the-variants.{BadFrame, Outside, Temporal, TooDeep, ManyInitials, ManyEquations, ManyNodes, NoEquation}
 use Rattle.decks.specs.Answers.{Outcome, Got, Refused, refuse, afterwards}
-use Rattle.decks.specs.Readings.{walk}
-use Rattle.frames.specs.Read.{walk as walkLines, Due, DueSet, DueInit, DueAny, DueEquation, DueCount, DueNone, Sofar, begun, withEquation, deckLine, complete, deckEnd, readDeck}
-use Rattle.frames.proofs.LineLaws.{refused-got}
-use Rattle.frames.proofs.DeckLaws.{plain-temporal, temporal-plain}
-use Rattle.frames.proofs.LeftLaws.{HasEquation}
-use Rattle.cards.proofs.Outcomes.{got-eq}
+use Rattle.decks.specs.Readings.{walk, complete}
+use Rattle.frames.specs.Read.{Due, DueSet, DueInit, DueAny, DueEquation, DueCount, DueNone, Sofar, begun, withEquation, deckLine, deckEnd, readDeck}
+use Rattle.decks.proofs.Outcomes.{refused-got, got-eq}
+use Rattle.logic.proofs.Rights.{plain-temporal, temporal-plain}
+use Rattle.decks.proofs.Complete.{HasEquation}
 use Rattle.refusals.specs.Order.{Conditions, Done, Try, oneByOne, backwards, rising}
 use Rattle.refusals.specs.FrameFaults.{Frame, SetFrame, InitFrame, EquationFrame, PropertyFrame, CountFrame, WritesFrame, Holds, DeepLine, NoFrame, UsesOutside, NotPlain, InitialOver, EquationOver, NodesOver, frameFaults, added, Framing, Behind, Holding, lineFaults}
 use Rattle.refusals.specs.FramesOrder.{EndsEarly, Lacking, framesOrder, Gives}
 use Rattle.refusals.proofs.OrderLaws.{true-false, Meets, meets-is, meets-here, meets-past, meets-test, meets-got, meets-keeps, meets-afterwards, alike-meets, meets-walk, rising-alike}
 use Rattle.refusals.proofs.Lacking.{Without, complete-meets}
 use Rattle.refusals.proofs.Frames.{frameRead, judged, line-judges, holds-read, deep-read, Comes, line-comes}
-
--- The walk over lines is the walk over any list.
-module _ {S : Type 0} (f : ℕ → List ℕ → S → Outcome S) where
-  pub walk-same : (ls : List (List ℕ)) (n : ℕ) (s : S) → walkLines f n ls s ≡ walk f n ls s
-  unfolding walkLines walk
-  walk-same [] n s = refl
-  walk-same (l ∷ ls) n s = go (f n l s) (λ t. walk-same ls (suc n) t)
-    where
-      go : (r : Outcome S) → ((t : S) → walkLines f (suc n) ls t ≡ walk f (suc n) ls t) → _≡_ {A = Outcome S} (elim r [ Got t ↦ walkLines f (suc n) ls t | Refused a ↦ Refused a ]) (elim r [ Got t ↦ walk f (suc n) ls t | Refused a ↦ Refused a ])
-      go (Got t) h = h t
-      go (Refused a) h = refl
 
 -- ---- the judgement of one frame
 
@@ -156,8 +144,8 @@ module _ (back : List (List ℕ)) (so : Sofar) (t : Framing back so) where
           meets-is _ _ _ _ (ap Refused f) (meets-past _ _ _ _ _ (λ h. behind-is (λ (w : Sofar). NoFrame w n l) h .1 d) (meets-here _ _ _ _ (so, t, d)))
 
 -- All lines meet their faults, line by line.
-lines-meet : (ls : List (List ℕ)) → Meets (oneByOne lineFaults 1 [] ls) (Framing (backwards [] ls)) (walkLines deckLine 1 ls begun)
-lines-meet ls = meets-is _ _ _ _ (walk-same deckLine ls 1 begun) (meets-walk deckLine lineFaults Framing (λ back l so t. line-meets back so t l) ls [] begun refl)
+lines-meet : (ls : List (List ℕ)) → Meets (oneByOne lineFaults 1 [] ls) (Framing (backwards [] ls)) (walk deckLine 1 ls begun)
+lines-meet ls = meets-walk deckLine lineFaults Framing (λ back l so t. line-meets back so t l) ls [] begun refl
 
 -- ---- behind the last line
 
@@ -205,7 +193,7 @@ pub frames-meet : (text : List ℕ) → Meets (framesOrder text) (Gives text) (r
 unfolding readDeck
 frames-meet text =
     meets-test _ _ _ _ (ltb (base .text) (length text)) _ (ltb-true (base .text) (length text)) (λ e h. omega (arith, ltb-false (base .text) (length text) e)) (λ e.
-    meets-afterwards _ _ (Framing (backwards [] (ended text))) (Gives text) (walkLines deckLine 1 (ended text) begun) (λ s. deckEnd (unended text) s) (lines-meet (ended text)) (λ so g t.
+    meets-afterwards _ _ (Framing (backwards [] (ended text))) (Gives text) (walk deckLine 1 (ended text) begun) (λ s. deckEnd (unended text) s) (lines-meet (ended text)) (λ so g t.
     meets-keeps _ _ (Gives text) (deckEnd (unended text) so) (end-meets text so t) (λ d n e. (so, t, e))))
 
 pub gives-unique : (text : List ℕ) (d e : Deck) → Gives text d → Gives text e → d ≡ e

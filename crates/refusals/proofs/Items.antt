@@ -20,7 +20,7 @@ use Rattle.decks.specs.Answers.{Outcome, Got, Refused, refuse, afterwards}
 use Rattle.cards.specs.Grammar.{Counted, Number, NoNumber, readNumber, readExpr}
 use Rattle.cards.specs.Typed.{Typed, binaryFrom, equationSpelt, firstVars}
 use Rattle.cards.specs.Read.{behind, Due, DueVars, DueInit, DueAny, DueEquation, DueEnd, DueNone, Sofar, wholeExpr, wholeNumber, varsStatement, readBinary, initStatement, withEquation, equationStatement, propStatement, endStatement, equationOrProp, dueStatement}
-use Rattle.cards.proofs.Outcomes.{refused-got}
+use Rattle.decks.proofs.Outcomes.{refused-got}
 use Rattle.cards.proofs.GrammarLaws.{decimal-read, read-decimal}
 use Rattle.cards.proofs.WordLaws.{word-behind, behind-word, whole-number-spelt, whole-number-got, whole-expr-spelt, whole-expr-got, binary-read, read-binary}
 use Rattle.cards.proofs.ExactlyWhen.{TooFar, too-deep-exactly}

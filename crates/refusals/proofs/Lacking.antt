@@ -1,38 +1,26 @@
 -- 15 is given exactly where a variable has no equation, and names the lowest.
-use mathlib.Core.Path.{_≡_, refl, sym, ap, subst}
-use mathlib.Core.List.{List, [], _∷_}
+use mathlib.Core.Path.{_≡_, refl, sym, subst}
 use Prim.Native.Nat.{ℕ, _^_, _<_}
 use native.Mathlib.Omega.{arith}
-use Rattle.sets.specs.Sets.{_∋_, only, union}
+use Rattle.sets.specs.Sets.{_∋_}
 use Rattle.sets.proofs.Laws.{member-lt}
-use Rattle.logic.specs.Decks.{Equation, Deck, base}
+use Rattle.logic.specs.Decks.{Deck, base}
 use Rattle.decks.specs.declared.Answer.the-variants.{NoEquation}
 use Rattle.decks.specs.Answers.{Outcome, Got, Refused}
-use Rattle.decks.specs.Readings.{leftSet, complete}
-use Rattle.frames.specs.Read.{leftSet as frameLeftSet, complete as frameComplete}
-use Rattle.frames.proofs.LeftLaws.{HasEquation, all-complete, refused-lowest}
+use Rattle.decks.specs.Readings.{complete}
+use Rattle.decks.proofs.Complete.{HasEquation, all-complete, refused-lowest}
 use Rattle.refusals.specs.Order.{FirstOf, rising}
 use Rattle.refusals.proofs.OrderLaws.{Meets, rising-first, rising-none}
-
-left-set-same : (qs : List Equation) → leftSet qs ≡ frameLeftSet qs
-unfolding leftSet frameLeftSet
-left-set-same [] = refl
-left-set-same (q ∷ qs) = ap (union (only (q .left))) (left-set-same qs)
-
--- Cards and frames name the same variable.
-pub complete-same : (d : Deck) → complete d ≡ frameComplete d
-unfolding complete frameComplete
-complete-same d = rw (left-set-same (d .equations)) refl
 
 -- Vv is a variable of the deck and has no equation.
 abbrev pub Without : Deck → ℕ → Type 0
 Without d v = (d .vars ∋ v) × (HasEquation (d .equations) v → ⊥)
 
-pub complete-meets : (d : Deck) → d .vars < 2 ^ base .variables → Meets (rising (Without d) NoEquation (base .variables) 0) (λ e. e ≡ d) (frameComplete d)
+pub complete-meets : (d : Deck) → d .vars < 2 ^ base .variables → Meets (rising (Without d) NoEquation (base .variables) 0) (λ e. e ≡ d) (complete d)
 unfolding Meets
-complete-meets d h = go (frameComplete d) refl
+complete-meets d h = go (complete d) refl
   where
-    go : (r : Outcome Deck) → frameComplete d ≡ r → Meets (rising (Without d) NoEquation (base .variables) 0) (λ e. e ≡ d) r
+    go : (r : Outcome Deck) → complete d ≡ r → Meets (rising (Without d) NoEquation (base .variables) 0) (λ e. e ≡ d) r
     go (Got e) p = let (same, all) = all-complete d e p in (rising-none (Without d) NoEquation (base .variables) 0 (λ v l h (m, n). n (all v m)), sym same)
     go (Refused a) p =
         let (v, e, (m, n, low)) = refused-lowest d a h p in

@@ -22,7 +22,7 @@ use Rattle.cones.specs.Cone.{lowestOutside, coneRead}
 use Rattle.cones.proofs.Answers.{read-cone, read-outside, outside-lowest}
 use Rattle.pieces.specs.Reduced.{pieceBytes, reduced}
 use Rattle.claims.specs.Checked.{verdictAnswer}
-use Rattle.cards.proofs.Outcomes.{refused-got, got-eq}
+use Rattle.decks.proofs.Outcomes.{refused-got, got-eq}
 use Rattle.refusals.specs.Order.{Conditions, Done, Try, FirstOf, NoneOf, rising}
 use Rattle.refusals.specs.OperationsOrder.{answerTo, coneOrder, roomOrder, verdictOrder}
 use Rattle.refusals.proofs.OrderLaws.{Meets, first-unique, first-none, first-left, first-right, none-both, rising-first, rising-none}

@@ -7,18 +7,18 @@ use Prim.Native.Nat.{ℕ, zero, suc, _-_, _<_, _≤_}
 use native.Mathlib.Omega.{arith}
 use native.Mathlib.Decide.{decLt}
 use lib.ListN.{getD}
-use Rattle.logic.specs.Expressions.{Expr, Const, Var, One, Two, Op1, Op2, Not, Next, Future, Always, And, Or, Until, Weak, levels, node1, node2, code}
+use Rattle.logic.specs.Expressions.{Expr, Const, Var, One, Two, Op1, Op2, Not, Next, Future, Always, And, Or, Until, Weak, levels, node1, node2, code, Below}
 use Rattle.logic.specs.Decks.{base}
-use Rattle.logic.proofs.Codes.{Below}
 use Rattle.decks.specs.declared.Answer.{Answer}
 use Rattle.decks.specs.declared.Answer.the-variants.{BadFrame, TooDeep}
 use Rattle.decks.specs.Answers.{Outcome, Got, Refused}
 use Rattle.frames.specs.Hex.{pair, byteOf}
 use Rattle.frames.specs.Written.{codeByte, nodePairs}
-use Rattle.frames.specs.Read.{Sign, Leaf, Before, Between, NoSign, signs, signOf, Reading, Whole, Wrong, Deep, onward, levelled, begins, readExpr, wholeExpr}
+use Rattle.frames.specs.Read.{Sign, Leaf, Before, Between, NoSign, signs, signOf, levelled, begins, readExpr, wholeExpr}
+use Rattle.decks.specs.Readings.{Reading, Whole, Wrong, Deep, onward}
 use Rattle.frames.proofs.HexLaws.{byte-pair, pair-byte}
 use Rattle.frames.proofs.ExprLaws.{Begins, code-byte-variable, sign-variable, sign-above, sign-begins, one-sign, two-sign, read-node, begun-pair, expr-written-read, expr-read-written}
-use Rattle.frames.proofs.LineLaws.{refused-got}
+use Rattle.decks.proofs.Outcomes.{refused-got}
 use Rattle.refusals.specs.FrameFaults.{BeginsCode, OpensPairs, TooFarDown}
 
 -- ---- where a deep reading stopped

@@ -20,8 +20,9 @@ use Rattle.decks.specs.Readings.{walk}
 use Rattle.cards.specs.Statement.{Statement, inked}
 use Rattle.cards.specs.Typed.{Typed, firstVars}
 use Rattle.cards.specs.Read.{Sofar, begun, withEquation, statementRead}
-use Rattle.cards.proofs.Outcomes.{refused-got, got-eq}
-use Rattle.cards.proofs.TypedLaws.{plain-temporal, temporal-plain, member-first-vars, below-subset}
+use Rattle.decks.proofs.Outcomes.{refused-got, got-eq}
+use Rattle.cards.proofs.TypedLaws.{member-first-vars, below-subset}
+use Rattle.logic.proofs.Rights.{plain-temporal, temporal-plain}
 use Rattle.refusals.specs.Order.{Conditions, Done, Try, oneByOne, backwards}
 use Rattle.refusals.specs.StatementFaults.{Item, Count, Initial, Equals, Property, Ending, Says, DeepIn, NoForm, UsesOutside, NotPlain, InitialOver, EquationOver, NodesOver, itemFaults, added, Typing, Behind, Saying, statementFaults}
 use Rattle.refusals.proofs.OrderLaws.{true-false, Meets, meets-is, meets-here, meets-past, meets-test, meets-got, meets-keeps, alike-meets, meets-walk}

@@ -16,7 +16,7 @@ use Rattle.logic.specs.Pieces.{split, piece, pieces}
 use Rattle.logic.specs.Verdicts.{unrolled, truth, taken, allowed, stepsFrom, verdict}
 use Rattle.decks.specs.declared.Reply.{Reply}
 use Rattle.decks.specs.declared.Answer.the-variants.{Fine}
-use Rattle.decks.specs.Readings.{walk, leftSet, complete, walk as lineWalk, leftSet as lefts, complete as completed}
+use Rattle.decks.specs.Readings.{walk, leftSet, complete}
 use Rattle.frames.specs.Hex.{hexDigit, pairs, digitOf, byteOf, numberFrom}
 use Rattle.frames.specs.Written.{codeByte, nodePairs, stateFrames, equationFrames, deckFrames}
 use Rattle.frames.specs.Read.{signOf, readExpr, wholeExpr, wholeNumber, kindOf, setLine, initLine, lastLeft, withEquation, equationLine, propertyLine, countLine, frameLine, deckLine, deckEnd, readDeck, sizesLine, stateLine, claimLine, claimEnd, readClaim}
@@ -149,7 +149,7 @@ rows =
     ∷ []
 
 pub table : Each Answered rows
-unfolding rows text lent over worked workedFrames pieceOne pieceTwo empty emptyFrames resting joined bytes ended unended fronted stands keep firsts others nodes written temporal value code totalNodes follower grown passes cone split piece pieces unrolled truth taken allowed stepsFrom verdict walk leftSet complete hexDigit pairs digitOf byteOf numberFrom codeByte nodePairs stateFrames equationFrames deckFrames signOf readExpr wholeExpr wholeNumber kindOf lineWalk setLine initLine lastLeft withEquation equationLine propertyLine countLine frameLine deckLine lefts completed deckEnd readDeck sizesLine stateLine claimLine claimEnd readClaim columns every cardKind opened cardInForm gathered secondDigit readNumber cardSign jointOf past pastJoint cardExpr risingFrom deckOf behind wholeCardExpr wholeCardNumber varsStatement readBinary initStatement withCardEquation equationStatement propStatement endStatement equationOrProp dueStatement statementRead cardsEnd readCards filled coneRead allFrames reduced reducedInto checked ones onesIn trailingZeros
+unfolding rows text lent over worked workedFrames pieceOne pieceTwo empty emptyFrames resting joined bytes ended unended fronted stands keep firsts others nodes written temporal value code totalNodes follower grown passes cone split piece pieces unrolled truth taken allowed stepsFrom verdict walk leftSet complete hexDigit pairs digitOf byteOf numberFrom codeByte nodePairs stateFrames equationFrames deckFrames signOf readExpr wholeExpr wholeNumber kindOf setLine initLine lastLeft withEquation equationLine propertyLine countLine frameLine deckLine deckEnd readDeck sizesLine stateLine claimLine claimEnd readClaim columns every cardKind opened cardInForm gathered secondDigit readNumber cardSign jointOf past pastJoint cardExpr risingFrom deckOf behind wholeCardExpr wholeCardNumber varsStatement readBinary initStatement withCardEquation equationStatement propStatement endStatement equationOrProp dueStatement statementRead cardsEnd readCards filled coneRead allFrames reduced reducedInto checked ones onesIn trailingZeros
 table = ((refl, refl), ((refl, refl), (refl, (refl, (refl, (refl, (refl, (refl, (refl, (refl, ((refl, refl), (refl, ((refl, refl), (refl, ((refl, refl), (refl, ((refl, refl), (refl, tt))))))))))))))))))
 
 -- ---- what the program prints
@@ -159,5 +159,5 @@ tabbed = text ("      VARS 0" ∷ "      INIT" ∷ []) ++ (9 ∷ text ("     PRO
 
 -- The worked deck prints its pieces whole; a tab in card 3 prints `FF020100000003`.
 pub worked-printed : (printed (readCards worked) 65536 ≡ pieceOne ++ pieceTwo) × (printed (readCards tabbed) 65536 ≡ text ("FF020100000003" ∷ []))
-unfolding tabbed printed refusalFrame text worked workedFrames pieceOne pieceTwo empty emptyFrames resting joined bytes ended unended fronted stands keep firsts others nodes written temporal value code totalNodes follower grown passes cone split piece pieces unrolled truth taken allowed stepsFrom verdict walk leftSet complete hexDigit pairs digitOf byteOf numberFrom codeByte nodePairs stateFrames equationFrames deckFrames signOf readExpr wholeExpr wholeNumber kindOf lineWalk setLine initLine lastLeft withEquation equationLine propertyLine countLine frameLine deckLine lefts completed deckEnd readDeck sizesLine stateLine claimLine claimEnd readClaim columns every cardKind opened cardInForm gathered secondDigit readNumber cardSign jointOf past pastJoint cardExpr risingFrom deckOf behind wholeCardExpr wholeCardNumber varsStatement readBinary initStatement withCardEquation equationStatement propStatement endStatement equationOrProp dueStatement statementRead cardsEnd readCards filled coneRead allFrames reduced reducedInto checked ones onesIn trailingZeros
+unfolding tabbed printed refusalFrame text worked workedFrames pieceOne pieceTwo empty emptyFrames resting joined bytes ended unended fronted stands keep firsts others nodes written temporal value code totalNodes follower grown passes cone split piece pieces unrolled truth taken allowed stepsFrom verdict walk leftSet complete hexDigit pairs digitOf byteOf numberFrom codeByte nodePairs stateFrames equationFrames deckFrames signOf readExpr wholeExpr wholeNumber kindOf setLine initLine lastLeft withEquation equationLine propertyLine countLine frameLine deckLine deckEnd readDeck sizesLine stateLine claimLine claimEnd readClaim columns every cardKind opened cardInForm gathered secondDigit readNumber cardSign jointOf past pastJoint cardExpr risingFrom deckOf behind wholeCardExpr wholeCardNumber varsStatement readBinary initStatement withCardEquation equationStatement propStatement endStatement equationOrProp dueStatement statementRead cardsEnd readCards filled coneRead allFrames reduced reducedInto checked ones onesIn trailingZeros
 worked-printed = (refl, refl)
