@@ -90,7 +90,9 @@ pub fn project(inits: &[u64], initials: usize, set: u64, row: &mut [u64]) -> usi
     let mut i = 0;
     let mut n = 0;
     while i < initials {
-        n = add_state(row, n, sets::meet(decks::state_at(inits, i), set));
+        let s = decks::state_at(inits, i);
+        let seen = sets::meet(s, set);
+        n = add_state(row, n, seen);
         i += 1;
     }
     n

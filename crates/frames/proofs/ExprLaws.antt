@@ -21,7 +21,7 @@ use Rattle.frames.proofs.HexLaws.{byte-pair, pair-byte, hex-from-zero}
 -- ---- the code of a sign
 
 -- The node whose code begins what the sign says.
-abbrev Begins : ℕ → Sign → Type 0
+abbrev pub Begins : ℕ → Sign → Type 0
 Begins n (Leaf (Const b)) = n ≡ codeByte (constNode b)
 Begins n (Leaf (Var v)) = (n ≡ codeByte v) × (v < 64)
 Begins n (Leaf (One o a)) = ⊥
@@ -30,15 +30,15 @@ Begins n (Before o) = n ≡ codeByte (node1 o)
 Begins n (Between o) = n ≡ codeByte (node2 o)
 Begins n NoSign = Unit
 
-code-byte-variable : (v : ℕ) → v < 256 → codeByte v ≡ v
+pub code-byte-variable : (v : ℕ) → v < 256 → codeByte v ≡ v
 unfolding codeByte
 code-byte-variable v h = simp (lt-ltb v 256 h, codeByte)
 
-sign-variable : (v : ℕ) → v < 64 → signOf v ≡ Leaf (Var v)
+pub sign-variable : (v : ℕ) → v < 64 → signOf v ≡ Leaf (Var v)
 unfolding signOf
 sign-variable v h = simp (lt-ltb v 64 h, signOf)
 
-sign-above : (n : ℕ) → 64 ≤ n → signOf n ≡ getD signs (n - 64) NoSign
+pub sign-above : (n : ℕ) → 64 ≤ n → signOf n ≡ getD signs (n - 64) NoSign
 unfolding signOf
 sign-above n h = simp (le-ltb n 64 h, signOf)
 
@@ -56,7 +56,7 @@ above-begins (suc (suc (suc (suc (suc (suc (suc (suc zero)))))))) = refl
 above-begins (suc (suc (suc (suc (suc (suc (suc (suc (suc zero))))))))) = refl
 above-begins (suc (suc (suc (suc (suc (suc (suc (suc (suc (suc k)))))))))) = tt
 
-sign-begins : (n : ℕ) → Begins n (signOf n)
+pub sign-begins : (n : ℕ) → Begins n (signOf n)
 sign-begins n =
     by-cases
     (decLt n 64)
@@ -71,14 +71,14 @@ const-sign true = (omega arith, refl)
 variable-sign : (v : ℕ) → v < 64 → (codeByte v < 256) × (signOf (codeByte v) ≡ Leaf (Var v))
 variable-sign v h = let e = code-byte-variable v (omega arith) in (omega arith, ap signOf e ∙ sign-variable v h)
 
-one-sign : (o : Op1) → (codeByte (node1 o) < 256) × (signOf (codeByte (node1 o)) ≡ Before o)
+pub one-sign : (o : Op1) → (codeByte (node1 o) < 256) × (signOf (codeByte (node1 o)) ≡ Before o)
 unfolding codeByte signOf
 one-sign Not = (omega arith, refl)
 one-sign Next = (omega arith, refl)
 one-sign Future = (omega arith, refl)
 one-sign Always = (omega arith, refl)
 
-two-sign : (o : Op2) → (codeByte (node2 o) < 256) × (signOf (codeByte (node2 o)) ≡ Between o)
+pub two-sign : (o : Op2) → (codeByte (node2 o) < 256) × (signOf (codeByte (node2 o)) ≡ Between o)
 unfolding codeByte signOf
 two-sign And = (omega arith, refl)
 two-sign Or = (omega arith, refl)
@@ -88,7 +88,7 @@ two-sign Weak = (omega arith, refl)
 -- ---- written, then read
 
 -- A node's pair is read as its sign.
-read-node : (left n : ℕ) (s : Sign) (cs : List ℕ)
+pub read-node : (left n : ℕ) (s : Sign) (cs : List ℕ)
     → (codeByte n < 256) × (signOf (codeByte n) ≡ s)
     → readExpr (suc left) (pair (codeByte n) ++ cs) ≡ begins (readExpr left) (pair (codeByte n) ++ cs) s cs
 unfolding readExpr
@@ -138,7 +138,7 @@ Says left cs (Wrong rs) = Unit
 Says left cs (Deep rs) = Unit
 
 -- The pair of a code, where the characters are that pair.
-begun-pair : (h l n : ℕ) (cs : List ℕ) → byteOf h l ≡ codeByte n → codeByte n < 256 → h ∷ l ∷ cs ≡ pair (codeByte n) ++ cs
+pub begun-pair : (h l n : ℕ) (cs : List ℕ) → byteOf h l ≡ codeByte n → codeByte n < 256 → h ∷ l ∷ cs ≡ pair (codeByte n) ++ cs
 begun-pair h l n cs e b = ap (λ (p : List ℕ). p ++ cs) (sym (pair-byte h l (omega arith)) ∙ ap pair e)
 
 levelled-says : (cs rest : List ℕ) (s : Sign) → Says 0 cs (levelled cs s rest)

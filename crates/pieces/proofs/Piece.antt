@@ -17,6 +17,9 @@ use Rattle.frames.specs.Written.{deckFrames}
 use Rattle.texts.specs.Texts.{Lent, deckOf, framesOf}
 use Rattle.pieces.specs.Laid.{Laid, Placed}
 
+pub cone-closed : (deps : List ℕ) (s set c : ℕ) → set ≡ s → ((qs : List Equation) → deps ≡ table qs → c ≡ cone qs set) → (qs : List Equation) → deps ≡ table qs → c ≡ cone qs s
+cone-closed deps s set c w f qs t = f qs t ∙ ap (cone qs) w
+
 length-rows : (qs : List Equation) (n v : ℕ) → length (rows qs n v) ≡ n
 unfolding rows
 length-rows qs zero v = refl
@@ -30,12 +33,12 @@ module _ (deps inits : List ℕ) (initials : ℕ) (lefts ends nodes : List ℕ) 
   deps-long D e p = ap length (p .laid .table-is) ∙ length-rows (D .equations) 64 0
 
   -- The cone worked out, and the states seen on it.
-  module _ (set c n : ℕ) (states : List ℕ) (w : set ≡ variablesOf (part from to property)) (f : (qs : List Equation) → deps ≡ table qs → c ≡ cone qs set)
-      (few : n ≤ initials) (long : length states ≡ 64) (s : take n states ≡ projected c (take initials inits)) where
+  module _ (c n : ℕ) (states : List ℕ) (f : (qs : List Equation) → deps ≡ table qs → c ≡ cone qs (variablesOf (part from to property))) (few : n ≤ initials)
+      (long : length states ≡ 64) (s : take n states ≡ projected c (take initials inits)) where
     its-cone : (D : Deck) (e : Expr) → Here D e → c ≡ coneOf D e
     its-cone D e p =
         f (D .equations) (p .laid .table-is)
-        ∙ ap (cone (D .equations)) (w ∙ ap variablesOf (p .is-code) ∙ variables-code e (written-below 64 (D .vars) e (p .laid .accepted .vars-in) (p .inside)))
+        ∙ ap (cone (D .equations)) (ap variablesOf (p .is-code) ∙ variables-code e (written-below 64 (D .vars) e (p .laid .accepted .vars-in) (p .inside)))
 
     its-frames : (D : Deck) (e : Expr) → Here D e → framesOf c states n (D .equations) e ≡ deckFrames (piece D e)
     unfolding piece

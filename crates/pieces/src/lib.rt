@@ -6,8 +6,11 @@ ghost use Prim.Native.Nat.{ℕ, _≤_};
 ghost use lib.ListN.{length};
 ghost use Rattle.lists.specs.Lists.{splice};
 ghost use Rattle.logic.specs.Expressions.{Expr};
-ghost use Rattle.logic.specs.Decks.{Deck, Accepted, base};
+ghost use Rattle.logic.specs.Decks.{Equation, Deck, Accepted, base};
+ghost use Rattle.logic.specs.Cones.{cone};
 ghost use Rattle.logic.specs.Pieces.{piece};
+ghost use Rattle.terms.specs.Nodes.{part, variablesOf};
+ghost use Rattle.cones.specs.Dependencies.{table};
 ghost use Rattle.decks.specs.Stored.{stored};
 ghost use Rattle.frames.specs.Written.{deckFrames};
 ghost use Rattle.pieces.specs.Laid.{Placed, Bound};
@@ -18,6 +21,15 @@ pub struct Reduced {
     pub answer: Answer,
     pub pieces: usize,
     pub bytes: usize,
+}
+
+// The cone of the variables written in the nodes from..to, in the equations whose table this is.
+fn cone_of<'a>(deps: &'a [u64], property: &'a [u16], from: usize, to: usize) -> u64
+    requires { ⌜ length (now deps) ≡ base .variables ⌝ }
+    ensures { λ r. ⌜ ((qs : List Equation) → now (deps .entry) ≡ table qs → r ≡ cone qs (variablesOf (part from to (now (property .entry))))) ⌝ }
+{
+    let written = terms::written_in(property, from, to);
+    cones::closing(deps, written)
 }
 
 // The bytes of the piece of the conjunct from..to.
@@ -36,7 +48,7 @@ fn piece_size<'a>(
     requires { ⌜ ((D : Deck) × (e : Expr) × Placed D e (now deps) (now inits) initials (now lefts) (now ends) (now nodes) equations (now property) from to) ⌝ }
     ensures { λ r. ⌜ ((D : Deck) (e : Expr) → Placed D e (now (deps .entry)) (now (inits .entry)) initials (now (lefts .entry)) (now (ends .entry)) (now (nodes .entry)) equations (now (property .entry)) from to → r ≡ length (deckFrames (piece D e))) ⌝ }
 {
-    let cone = cones::closing(deps, terms::written_in(property, from, to));
+    let cone = cone_of(deps, property, from, to);
     let mut states = [0u64; decks::INITIALS];
     let n = conjuncts::project(inits, initials, cone, &mut states);
     texts::frames_size(
@@ -70,7 +82,7 @@ fn write_piece<'a>(
     requires { ⌜ ((D : Deck) × (e : Expr) × Placed D e (now deps) (now inits) initials (now lefts) (now ends) (now nodes) equations (now property) from to × (length (deckFrames (piece D e)) ≤ length (now out))) ⌝ }
     ensures { λ r. ⌜ ((D : Deck) (e : Expr) → Placed D e (now (deps .entry)) (now (inits .entry)) initials (now (lefts .entry)) (now (ends .entry)) (now (nodes .entry)) equations (now (property .entry)) from to → (r ≡ length (deckFrames (piece D e))) × (now (out .exit) ≡ splice 0 (deckFrames (piece D e)) (now (out .entry)))) ⌝ }
 {
-    let cone = cones::closing(deps, terms::written_in(property, from, to));
+    let cone = cone_of(deps, property, from, to);
     let mut states = [0u64; decks::INITIALS];
     let n = conjuncts::project(inits, initials, cone, &mut states);
     texts::write_frames(

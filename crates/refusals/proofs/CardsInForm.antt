@@ -199,7 +199,7 @@ module _ (n : ℕ) (back : List (List ℕ)) (card : List ℕ) where
 
 -- All cards meet their faults, card by card.
 pub form-meets : (cards : List (List ℕ)) → Meets (oneByOne cardFaults 1 [] cards) (Stands (backwards [] cards)) (inForm cards)
-form-meets cards = meets-walk cardInForm cardFaults Stands (λ n back card o s. card-meets n back card o s) cards 1 [] Shut (λ k h. h)
+form-meets cards = meets-walk cardInForm cardFaults Stands (λ back card o s. card-meets (suc (length back)) back card o s) cards [] Shut (λ k h. h)
 
 -- The first pass refuses exactly where the answer is that of the first fault, card by card, 2 to 7 in number order.
 pub form-refused-exactly-when : (cards : List (List ℕ)) (a : Answer) → (inForm cards ≡ Refused a) ↔ FirstOf (oneByOne cardFaults 1 [] cards) a

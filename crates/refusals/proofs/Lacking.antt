@@ -39,7 +39,7 @@ unfolding Meets
 complete-meets d h = go (frameComplete d) refl
   where
     go : (r : Outcome Deck) → frameComplete d ≡ r → Meets (rising (Without d) NoEquation (base .variables) 0) (λ e. e ≡ d) r
-    go (Got e) p = let (same, all) = all-complete d e p in (rising-none (Without d) NoEquation (base .variables) 0 (λ v (m, n). n (all v m)), sym same)
+    go (Got e) p = let (same, all) = all-complete d e p in (rising-none (Without d) NoEquation (base .variables) 0 (λ v l h (m, n). n (all v m)), sym same)
     go (Refused a) p =
         let (v, e, (m, n, low)) = refused-lowest d a h p in
         subst (FirstOf (rising (Without d) NoEquation (base .variables) 0)) (sym e)

@@ -4,4 +4,9 @@ pub mod Items
 pub mod Statements
 pub mod Lacking
 pub mod CardsRefused
+pub mod PairsDeep
+pub mod Frames
+pub mod FramesRefused
+pub mod ClaimsRefused
+pub mod Operations
 pub mod RefusedExactlyWhen

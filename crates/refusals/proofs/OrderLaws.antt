@@ -5,6 +5,7 @@ use mathlib.Core.Bool.{Bool, true, false, not}
 use mathlib.Core.List.{List, [], _∷_}
 use Prim.Native.Nat.{ℕ, zero, suc, _+_, _<_, _≤_}
 use native.Mathlib.Omega.{arith}
+use lib.ListN.{length}
 use native.Mathlib.Decide.{ℕ-discrete}
 use Rattle.decks.specs.declared.Answer.{Answer}
 use Rattle.decks.specs.Answers.{Outcome, Got, Refused, refuse, afterwards}
@@ -126,15 +127,18 @@ alike-meets c d Q (Refused a) m f = alike-first c d a m f
 -- ---- one by one
 
 module _ {A S : Type 0} (f : ℕ → A → S → Outcome S) (faults : ℕ → List A → A → Conditions) (K : List A → S → Type 0) where
-  -- A walk whose every member meets its conditions, from what those before it came to.
-  pub meets-walk : ((n : ℕ) (back : List A) (x : A) (s : S) → K back s → Meets (faults n back x) (K (x ∷ back)) (f n x s))
-      → (xs : List A) (n : ℕ) (back : List A) (s : S)
+  -- A walk whose every member meets its conditions, from what those before it came to. Member n has n - 1 before it.
+  pub meets-walk : ((back : List A) (x : A) (s : S) → K back s → Meets (faults (suc (length back)) back x) (K (x ∷ back)) (f (suc (length back)) x s))
+      → (xs back : List A) (s : S)
       → K back s
-      → Meets (oneByOne faults n back xs) (K (backwards back xs)) (walk f n xs s)
+      → Meets (oneByOne faults (suc (length back)) back xs) (K (backwards back xs)) (walk f (suc (length back)) xs s)
   unfolding Meets oneByOne backwards walk
-  meets-walk step [] n back s k = (tt, k)
-  meets-walk step (x ∷ xs) n back s k = go (f n x s) refl (step n back x s k) (λ t h. meets-walk step xs (suc n) (x ∷ back) t h)
+  meets-walk step [] back s k = (tt, k)
+  meets-walk step (x ∷ xs) back s k = go (f n x s) refl (step back x s k) (λ t h. meets-walk step xs (x ∷ back) t h)
     where
+      n : ℕ
+      n = suc (length back)
+
       rest : Conditions
       rest = oneByOne faults (suc n) (x ∷ back) xs
 
@@ -156,10 +160,10 @@ rising-first P b (suc k) v w l h p n =
     (λ same. inl (subst P (sym same) p, ap b (sym same)))
     (λ other. inr (n v (omega arith) (omega arith), rising-first P b k (suc v) w (omega arith) (omega arith) p (λ u m. n u (omega arith))))
 
-pub rising-none : (P : ℕ → Type 0) (b : ℕ → Answer) (k v : ℕ) → ((u : ℕ) → P u → ⊥) → NoneOf (rising P b k v)
+pub rising-none : (P : ℕ → Type 0) (b : ℕ → Answer) (k v : ℕ) → ((u : ℕ) → v ≤ u → u < v + k → P u → ⊥) → NoneOf (rising P b k v)
 unfolding rising
 rising-none P b zero v n = tt
-rising-none P b (suc k) v n = (n v, rising-none P b k (suc v) n)
+rising-none P b (suc k) v n = (n v (omega arith) (omega arith), rising-none P b k (suc v) (λ u l h. n u (omega arith) (omega arith)))
 
 pub rising-alike : (P Q : ℕ → Type 0) (b : ℕ → Answer) (k v : ℕ) → ((u : ℕ) → P u ↔ Q u) → Alike (rising P b k v) (rising Q b k v)
 unfolding rising

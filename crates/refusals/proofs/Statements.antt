@@ -3,7 +3,7 @@ use mathlib.Core.Path.{_≡_, refl, sym, ap, _∙_, subst}
 use mathlib.Core.Logic.{_⊎_, inl, inr, ⊎-elim, by-cases, _↔_}
 use mathlib.Core.Bool.{Bool, true, false, not}
 use mathlib.Core.List.{List, [], _∷_, _++_}
-use Prim.Native.Nat.{ℕ, _+_, _^_, _<_, _≤_}
+use Prim.Native.Nat.{ℕ, suc, _+_, _^_, _<_, _≤_}
 use native.Mathlib.Omega.{arith}
 use native.Mathlib.Decide.{decLt}
 use borrow.Author.Tests.{ltb-true, ltb-false, not-false, not-true}
@@ -142,4 +142,4 @@ module _ (back : List Statement) (so : Sofar) (t : Typing back so) where
 
 -- All statements meet their faults, statement by statement.
 pub statements-meet : (ss : List Statement) → Meets (oneByOne statementFaults 1 [] ss) (Typing (backwards [] ss)) (walk statementRead 1 ss begun)
-statements-meet ss = meets-walk statementRead statementFaults Typing (λ m back s so t. statement-meets back so t m s) ss 1 [] begun refl
+statements-meet ss = meets-walk statementRead statementFaults Typing (λ back s so t. statement-meets back so t (suc (length back)) s) ss [] begun refl

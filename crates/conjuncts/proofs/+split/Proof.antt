@@ -75,7 +75,7 @@ split-put-place-requires-2 : (t : ℕ) → split-lts.Need-put-place-requires-2 (
   split-below t,
   split.Post,
 ) (split-at t) split.Post
-split-put-place-requires-2 t c κs = search (needs, laws.two-more, laws.place-fits)
+split-put-place-requires-2 t c κs = search (needs, laws.two-more)
 
 -- src/lib.rt:28:16
 split-add-result : (t : ℕ) → split-lts.Need-add-result (

@@ -45,7 +45,7 @@ loop-less c = search needs
 
 -- src/lib.rt:69:5
 loop-again : tie.Need-loop-again Inv-loop μ-loop
-loop-again c = (omega arith, omega arith, cc, laws.project-on _ _ _ (c .before .before .before .before .before .before .before .loop .n) _ _ (c .before .before .add-state .result) _ (c .before .before .before .before .before .before .before .loop .row) (c .before .before .add-state .last .0) (c .before .before .before .before .before .before .loop-test .taken) (c .before .before .before .before .before .before .before .before .before .before .pre .0) (c .before .before .before .before .state-at .ensures) (c .before .before .before .meet .ensures) (c .before .before .add-state .ensures .2) (c .before .before .before .before .before .before .before .loop .inv .3))
+loop-again c = (omega arith, omega arith, cc, laws.project-on _ _ _ (c .before .before .before .before .before .before .before .loop .n) _ _ (c .before .before .add-state .result) _ (c .before .before .before .before .before .before .before .loop .row) (c .before .before .add-state .last .0) (c .before .before .before .before .before .before .loop-test .taken) (c .before .before .before .before .before .before .before .before .before .before .pre .0) (c .before .before .before .before .before .state-at .ensures) (c .before .before .before .before .meet .ensures) (c .before .before .add-state .ensures .2) (c .before .before .before .before .before .before .before .loop .inv .3))
 
 -- src/lib.rt:63:1
 same-length : tie.Need-same-length Inv-loop μ-loop
