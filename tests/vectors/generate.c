@@ -291,9 +291,14 @@ static uint64_t reply(char operation, const struct text *one, const struct text 
 
 static const struct text nothing;
 
+/* The operations whose cases are written. */
+static const char *written = operations;
+
 static void emit(char operation, const struct text *one, const struct text *two,
                  uint64_t set, int room)
 {
+    if (!strchr(written, operation))
+        return;
     uint64_t counts[2];
     uint64_t result = reply(operation, one, two, set, room, counts);
     unsigned number = (unsigned)(result & 255), text = (unsigned)(result >> 8 & 255);
@@ -2011,10 +2016,12 @@ static void put_table(void)
 
 int main(int count, char **words)
 {
-    if (count != 5) {
-        fprintf(stderr, "usage: generate SEED CASES BUNDLE EXPECTED\n");
+    if (count != 5 && count != 6) {
+        fprintf(stderr, "usage: generate SEED CASES BUNDLE EXPECTED [OPERATIONS]\n");
         return 2;
     }
+    if (count == 6)
+        written = words[5];
     seed_state = strtoull(words[1], NULL, 10);
     long wanted = strtol(words[2], NULL, 10);
     bundle = fopen(words[3], "wb");
