@@ -1363,6 +1363,9 @@ static void worked_deck(void)
         "010000000000000003\n020000000000000000\n03004200\n0301430001\n030100\n04474201\n050006\n";
     static const char piece_two[] =
         "01000000000000000C\n020000000000000000\n02000000000000000C\n030203\n03034202\n044602\n050006\n";
+    static const char whole[] =
+        "01000000000000000F\n020000000000000000\n02000000000000000C\n03004200\n0301430001\n030100\n"
+        "030203\n03034202\n04434742014602\n050009\n";
     static const char *const bare[] = { "40", "494040", "494140", "484140" };
 
     set_text(&one, deck);
@@ -1375,6 +1378,9 @@ static void worked_deck(void)
     check_lines(piece_one, "1100000001\n" STATE("1") "150002\n");
     check_lines(piece_two,
                 "1100000004\n" STATE("0") STATE("8") STATE("C") STATE("4") "150005\n");
+    check_lines(whole, "1100000004\n" STATE("0") STATE("9") STATE("E") STATE("5") "150005\n");
+    check_lines(whole, "1100000004\n" STATE("0") STATE("9") STATE("C") STATE("5") "150005\n");
+    check_lines(whole, "1100000002\n" STATE("0") STATE("1") "150003\n");
     for (int i = 0; i < 4; i++) {
         char words[120];
         sprintf(words, "010000000000000000\n020000000000000000\n04%s\n050003\n", bare[i]);
