@@ -4,6 +4,5 @@ pub mod NumberedCards
 pub mod NumberedFrames
 pub mod OperationLaws
 pub mod ReplyLaws
-pub mod PrintLaws
 pub mod Demands
 pub mod Worked

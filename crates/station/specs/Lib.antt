@@ -1,4 +1,3 @@
 pub mod Promises
 pub mod Readable
-pub mod Printed
 pub mod Exported

@@ -6,12 +6,11 @@ ghost use Rattle.logic.specs.Verdicts.{verdict};
 ghost use Rattle.decks.specs.Answers.{Outcome, Got, replyOf};
 ghost use Rattle.decks.specs.Stored.{stored, deckRead, claimRead};
 ghost use Rattle.claims.specs.Checked.{verdictAnswer, deckChecked, checked as claimAnswer};
-ghost use Rattle.station.specs.Promises.{deckReply, countReply, readReply, writeReply, writeBuffer, reduceReply, reduceBuffer, coneReply, ReadsFrames, WritesFrames, ReducesFrames, FindsCone, ChecksClaim};
-ghost use Rattle.texts.specs.Texts.{filled};
+ghost use Rattle.station.specs.Promises.{deckReply, countReply, readReply, writeReply, writeBuffer, reduceReply, reduceBuffer, coneReply, ReadsFrames, ReadsCards, WritesFrames, WritesCards, ReducesFrames, ReducesCards, FindsCone, ChecksClaim};
 ghost use Rattle.station.specs.Readable.{Readable};
-ghost use Rattle.station.specs.Printed.{refusalFrame, printedInto};
 ghost use Rattle.station.specs.Exported.{packed, packedReply, Exported};
 ghost use Rattle.frames.specs.Read.{readDeck};
+ghost use Rattle.cards.specs.Read.{readCards};
 ghost use lib.ListN.{length};
 
 // A reply that returns a deck.
@@ -162,6 +161,13 @@ fn checked(read: decks::DeckRead, claim: &[u8]) -> decks::Reply
     decks::reply_of(judged(d, m))
 }
 
+// A deck of cards, read.
+pub fn read_cards(text: &[u8]) -> DeckReply
+    ensures { λ r. ⌜ ReadsCards (now (text .entry)) r ⌝ }
+{
+    replied(cardreading::read_cards(text))
+}
+
 // A deck of frames, read.
 pub fn read_frames(text: &[u8]) -> DeckReply
     ensures { λ r. ⌜ ReadsFrames (now (text .entry)) r ⌝ }
@@ -169,11 +175,25 @@ pub fn read_frames(text: &[u8]) -> DeckReply
     replied(reading::read_deck(text))
 }
 
+// A deck of cards, written as frames.
+pub fn write_cards(text: &[u8], out: &mut [u8]) -> CountReply
+    ensures { λ r. ⌜ WritesCards (now (text .entry)) (now (out .entry)) r (now (out .exit)) ⌝ }
+{
+    written(cardreading::read_cards(text), out)
+}
+
 // A deck of frames, written as frames.
 pub fn write_frames(text: &[u8], out: &mut [u8]) -> CountReply
     ensures { λ r. ⌜ WritesFrames (now (text .entry)) (now (out .entry)) r (now (out .exit)) ⌝ }
 {
     written(reading::read_deck(text), out)
+}
+
+// A deck of cards, reduced: all pieces written.
+pub fn reduce_cards(text: &[u8], out: &mut [u8]) -> CountReply
+    ensures { λ r. ⌜ ReducesCards (now (text .entry)) (now (out .entry)) r (now (out .exit)) ⌝ }
+{
+    reduced(cardreading::read_cards(text), out)
 }
 
 // A deck of frames, reduced: all pieces written.
@@ -214,12 +234,28 @@ fn export(s: CountReply, counts: &mut [u64]) -> u64
     packed(s.number, s.text, s.place)
 }
 
+// write_cards for C: bytes and 0 are the counts.
+#[no_mangle]
+pub extern "C" fn micaplume_write_cards(text: &[u8], out: &mut [u8], counts: &mut [u64; 2]) -> u64
+    ensures { λ r. ⌜ Exported (writeReply (readCards (now (text .entry))) (now (out .entry))) r (now (counts .exit)) × (now (out .exit) ≡ writeBuffer (readCards (now (text .entry))) (now (out .entry))) ⌝ }
+{
+    export(write_cards(text, out), counts)
+}
+
 // write_frames for C: bytes and 0 are the counts.
 #[no_mangle]
 pub extern "C" fn micaplume_write_frames(text: &[u8], out: &mut [u8], counts: &mut [u64; 2]) -> u64
     ensures { λ r. ⌜ Exported (writeReply (readDeck (now (text .entry))) (now (out .entry))) r (now (counts .exit)) × (now (out .exit) ≡ writeBuffer (readDeck (now (text .entry))) (now (out .entry))) ⌝ }
 {
     export(write_frames(text, out), counts)
+}
+
+// reduce_cards for C: pieces and bytes are the counts.
+#[no_mangle]
+pub extern "C" fn micaplume_reduce_cards(text: &[u8], out: &mut [u8], counts: &mut [u64; 2]) -> u64
+    ensures { λ r. ⌜ Exported (reduceReply (readCards (now (text .entry))) (now (out .entry))) r (now (counts .exit)) × (now (out .exit) ≡ reduceBuffer (readCards (now (text .entry))) (now (out .entry))) ⌝ }
+{
+    export(reduce_cards(text, out), counts)
 }
 
 // reduce_frames for C: pieces and bytes are the counts.
@@ -245,27 +281,4 @@ pub extern "C" fn micaplume_check<'a>(deck: &'a [u8], claim: &'a [u8]) -> u64
 {
     let r = check(deck, claim);
     packed(r.number, r.text, r.place)
-}
-
-// The frame FF into a buffer that has room for it, and its length.
-fn put_refusal(number: u64, text: u64, place: u64, out: &mut [u8]) -> usize
-    ensures { λ r. ⌜ (r ≡ filled (refusalFrame number text place) (now (out .entry)) .report .bytes) × (now (out .exit) ≡ filled (refusalFrame number text place) (now (out .entry)) .buffer) ⌝ }
-{
-    if out.len() < 15 {
-        return 0;
-    }
-    let n = number % 256 * 1099511627776 + text % 256 * 4294967296 + place % 4294967296;
-    writing::put_number_frame(out, 255, 6, n)
-}
-
-// What was read, printed: its pieces, or one frame FF.
-fn printed(read: decks::DeckRead, out: &mut [u8]) -> usize
-    requires { ⌜ ((o : Outcome Deck) × Readable o × (read ≡ deckRead o)) ⌝ }
-    ensures { λ r. ⌜ ((o : Outcome Deck) → Readable o → read ≡ deckRead o → (r ≡ printedInto o (now (out .entry)) .report .bytes) × (now (out .exit) ≡ printedInto o (now (out .entry)) .buffer)) ⌝ }
-{
-    let r = reduced(read, out);
-    if r.number == 0 {
-        return r.second as usize;
-    }
-    put_refusal(r.number, r.text, r.place, out)
 }

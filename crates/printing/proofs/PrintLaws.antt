@@ -21,7 +21,7 @@ use Rattle.texts.specs.Texts.{Filled, filled}
 use Rattle.station.specs.declared.CountReply.{CountReply}
 use Rattle.station.specs.Promises.{reduceReply, reduceBuffer}
 use Rattle.station.specs.Readable.{Readable}
-use Rattle.station.specs.Printed.{refusalKind, refusalFrame, answerFrame, printed, printedInto}
+use Rattle.printing.specs.Printed.{refusalKind, refusalFrame, answerFrame, printed, printedInto}
 use Rattle.station.proofs.ReplyLaws.{reduced-as}
 
 abbrev six : ℕ → ℕ → ℕ → ℕ → ℕ → ℕ → List ℕ

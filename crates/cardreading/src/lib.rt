@@ -1,0 +1,184 @@
+// The reader of cards: a text of cards read as a deck.
+ghost use mathlib.Core.Path.{_≡_};
+ghost use Prim.Native.Nat.{ℕ, _+_, _-_, _^_, _<_, _≤_};
+ghost use lib.ListN.{length, drop, replicate};
+ghost use Rattle.logic.specs.Decks.{base};
+ghost use Rattle.decks.specs.declared.Answer.the-variants.{Fine};
+ghost use Rattle.decks.specs.Answers.{Refused, afterwards};
+ghost use Rattle.decks.specs.Readings.{walk, complete};
+ghost use Rattle.decks.specs.Stored.{deckRead};
+ghost use Rattle.cards.specs.Card.{cardsOf};
+ghost use Rattle.cards.specs.Statement.{statementsOf};
+ghost use Rattle.cards.specs.Typed.{firstVars, deckOf};
+ghost use Rattle.cards.specs.Read.{Sofar, begun, statementRead, cardsEnd, readCards};
+ghost use Rattle.statements.specs.Hold.{Formed};
+ghost use Rattle.cardlines.specs.Held.{Came};
+ghost use Rattle.cardreading.specs.Finished.{Ready, Empty};
+
+// A refusal, and the deck of zeros beside it.
+fn refused(a: decks::Answer) -> decks::DeckRead
+    ensures { λ r. ⌜ r ≡ deckRead (Refused a) ⌝ }
+{
+    decks::DeckRead {
+        answer: a,
+        deck: decks::no_deck(),
+    }
+}
+
+// The set of the first variables.
+fn first_vars(count: usize) -> u64
+    requires { ⌜ count ≤ base .variables ⌝ }
+    ensures { λ r. ⌜ r ≡ firstVars count ⌝ }
+{
+    if decks::VARIABLES <= count {
+        return 18446744073709551615;
+    }
+    (1u64 << count) - 1
+}
+
+// Statement by statement, into arrays of zeros.
+fn all_statements(
+    text: &[u8],
+    inits: &mut [u64],
+    scratch: &mut [u16],
+    lefts: &mut [u16],
+    ends: &mut [u16],
+    nodes: &mut [u16],
+    property: &mut [u16],
+) -> cardlines::StatementRead
+    requires { ⌜ (length (now text) ≤ base .text) × Formed 1 (cardsOf (drop 0 (now text))) × Empty (now inits) (now scratch) (now lefts) (now ends) (now nodes) (now property) ⌝ }
+    ensures { λ r. ⌜ Came (walk statementRead 1 (statementsOf (cardsOf (now (text .entry)))) begun) r (now (inits .exit)) (now (lefts .exit)) (now (ends .exit)) (now (nodes .exit)) (now (property .exit)) ⌝ }
+{
+    let mut held = cardlines::nothing();
+    let mut at = 0;
+    let mut n = 1u64;
+    while at < text.len() {
+        let t = statements::next_statement(text, at, n);
+        if !t.found {
+            return went(held);
+        }
+        let stmt = t.stmt;
+        let card = stmt.cards[0];
+        let r = cardlines::statement_read(
+            &stmt.chars,
+            stmt.used,
+            card,
+            held,
+            inits,
+            scratch,
+            lefts,
+            ends,
+            nodes,
+            property,
+        );
+        if !r.fine {
+            return r;
+        }
+        held = r.held;
+        at = t.at;
+        n = t.n;
+    }
+    went(held)
+}
+
+// Statements that were all taken.
+fn went(held: cardlines::Held) -> cardlines::StatementRead
+    ensures { λ r. ⌜ r ≡ record { fine = true; answer = Fine; held = held } ⌝ }
+{
+    cardlines::StatementRead {
+        fine: true,
+        answer: decks::Answer::Fine,
+        held: held,
+    }
+}
+
+// Behind `END`: the equations by rising variable, then 15, then the deck.
+fn finished<'a>(
+    held: cardlines::Held,
+    inits: [u64; decks::INITIALS * decks::WORDS],
+    property: [u16; decks::PROPERTY_NODES],
+    lefts: &'a [u16],
+    ends: &'a [u16],
+    nodes: &'a [u16],
+) -> decks::DeckRead
+    requires { ⌜ ((s : Sofar) × Ready s held inits (now lefts) (now ends) (now nodes) property) ⌝ }
+    ensures { λ r. ⌜ ((s : Sofar) → Ready s held inits (now (lefts .entry)) (now (ends .entry)) (now (nodes .entry)) property → r ≡ deckRead (complete (deckOf (s .typed)))) ⌝ }
+{
+    let mut to_lefts = [0u16; decks::EQUATIONS];
+    let mut to_ends = [0u16; decks::EQUATIONS];
+    let mut to_nodes = [0u16; decks::EQUATION_NODES];
+    sorting::rising(
+        lefts,
+        ends,
+        nodes,
+        held.equations,
+        held.count,
+        &mut to_lefts,
+        &mut to_ends,
+        &mut to_nodes,
+    );
+    let vars = first_vars(held.count);
+    let missing = sets::without(vars, sorting::left_set(&to_lefts, held.equations));
+    if missing != 0 {
+        return refused(decks::Answer::NoEquation(sets::lowest(missing) as u64));
+    }
+    decks::DeckRead {
+        answer: decks::Answer::Fine,
+        deck: decks::Deck {
+            vars: vars,
+            inits: inits,
+            initials: held.initials,
+            lefts: to_lefts,
+            ends: to_ends,
+            equations: held.equations,
+            nodes: to_nodes,
+            property: property,
+            size: held.size,
+        },
+    }
+}
+
+// The statements of cards that are in form, then what is missing, then the deck.
+fn second_pass(text: &[u8]) -> decks::DeckRead
+    requires { ⌜ (length (now text) ≤ base .text) × Formed 1 (cardsOf (drop 0 (now text))) ⌝ }
+    ensures { λ r. ⌜ r ≡ deckRead (afterwards (walk statementRead 1 (statementsOf (cardsOf (now (text .entry)))) begun) cardsEnd) ⌝ }
+{
+    let mut inits = [0u64; decks::INITIALS * decks::WORDS];
+    let mut scratch = [0u16; statements::CHARACTERS];
+    let mut lefts = [0u16; decks::EQUATIONS];
+    let mut ends = [0u16; decks::EQUATIONS];
+    let mut nodes = [0u16; decks::EQUATION_NODES];
+    let mut property = [0u16; decks::PROPERTY_NODES];
+    let r = all_statements(
+        text,
+        &mut inits,
+        &mut scratch,
+        &mut lefts,
+        &mut ends,
+        &mut nodes,
+        &mut property,
+    );
+    if !r.fine {
+        let a = r.answer;
+        return refused(a);
+    }
+    let held = r.held;
+    if held.due != cardlines::DUE_NONE {
+        return refused(decks::Answer::NotDue(0));
+    }
+    finished(held, inits, property, &lefts, &ends, &nodes)
+}
+
+// A text of cards read as a deck.
+pub fn read_cards(text: &[u8]) -> decks::DeckRead
+    ensures { λ r. ⌜ r ≡ deckRead (readCards (now (text .entry))) ⌝ }
+{
+    if text.len() > decks::TEXT {
+        return refused(decks::Answer::TooLong(1));
+    }
+    let a = firstpass::first_pass(text);
+    let decks::Answer::Fine = a else {
+        return refused(a);
+    };
+    second_pass(text)
+}
