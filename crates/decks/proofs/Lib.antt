@@ -1,3 +1,4 @@
 pub mod Outcomes
 pub mod Complete
 pub mod Stored
+pub mod Rows

@@ -2,6 +2,7 @@
 ghost use mathlib.Core.Path.{_≡_};
 ghost use Prim.Native.Nat.{ℕ, _+_, _*_, _<_, _≤_};
 ghost use lib.ListN.{length, take, drop, getD, set, replicate};
+ghost use Rattle.lists.specs.Lists.{stands};
 ghost use Rattle.logic.specs.Decks.{Limits, base};
 ghost use Rattle.decks.specs.Answers.{replyOf};
 ghost use Rattle.decks.specs.Stored.{blank, sizesOf};
@@ -128,6 +129,21 @@ pub fn put_state(states: &mut [u64], i: usize, s: u64)
     ensures { λ _. ⌜ now (states .exit) ≡ set (now (states .entry)) i s ⌝ }
 {
     states[i] = s;
+}
+
+// Whether a state is among the first of a row of states.
+pub fn stands_in(states: &[u64], count: usize, s: u64) -> bool
+    requires { ⌜ count ≤ length (now states) ⌝ }
+    ensures { λ r. ⌜ r ≡ stands s (take count (now (states .entry))) ⌝ }
+{
+    let mut i = 0;
+    while i < count {
+        if s == state_at(states, i) {
+            return true;
+        }
+        i += 1;
+    }
+    false
 }
 
 // The paper's number, text and place of an answer.
