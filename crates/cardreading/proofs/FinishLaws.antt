@@ -1,12 +1,10 @@
 -- Laws of the end of a deck of cards: its equations by rising variable, then 15, then the deck.
 use mathlib.Core.Path.{_≡_, refl, sym, ap, ap₂, _∙_, subst}
-use mathlib.Core.Bool.{true, not}
 use mathlib.Core.List.{List}
 use Prim.Native.Nat.{ℕ, zero, suc, _-_, _*_, _%_, _^_, _<_, _≤_}
 use native.Mathlib.Omega.{arith}
 use native.Mathlib.Nat.{one-mul}
-use borrow.Author.Tests.{ne-eqb}
-use lib.Dec.{eqb, lit<}
+use lib.Dec.{lit<}
 use lib.ListN.{length, replicate, length-append, length-map}
 use lib.Pow.{pow-pos, shl-exact}
 use Rattle.lists.specs.Lists.{Each, keep}
@@ -15,9 +13,10 @@ use Rattle.sets.specs.Sets.{without, lowestOf}
 use Rattle.logic.specs.Decks.{Equation, base}
 use Rattle.decks.specs.declared.Answer.the-variants.{Fine, NoEquation}
 use Rattle.decks.specs.declared.DeckRead.{DeckRead}
-use Rattle.decks.specs.Answers.{Got, Refused, refuse}
+use Rattle.decks.specs.Answers.{Refused}
 use Rattle.decks.specs.Readings.{leftSet, complete}
 use Rattle.decks.specs.Stored.{leftsOf, HoldsEquations, deckRead}
+use Rattle.decks.proofs.Complete.{lacking, complete-none, complete-some}
 use Rattle.cards.specs.Typed.{firstVars, risingFrom, deckOf}
 use Rattle.cards.specs.Read.{Due, DueNone, Sofar}
 use Rattle.cards.proofs.TypedLaws.{ofVariable, allowed-lefts}
@@ -114,14 +113,11 @@ module _ (held : Held) (inits lefts ends nodes′ property : List ℕ) where
         unfolding deckOf
         deck-vars = vars-are ∙ ap firstVars (count-held s r)
 
-        judged : complete (deckOf (s .typed)) ≡ refuse (not (eqb m 0)) (NoEquation (lowestOf m)) (Got (deckOf (s .typed)))
-        unfolding complete
-        judged =
-            let e : m ≡ without (deckOf (s .typed) .vars) (leftSet (deckOf (s .typed) .equations)) = missing-is ∙ ap₂ without deck-vars (covered-is (deckOf (s .typed) .equations) (deck-lefts sorts s r)) in
-            ap (λ (y : ℕ). refuse (not (eqb y 0)) (NoEquation (lowestOf y)) (Got (deckOf (s .typed)))) (sym e)
+        lacking-is : m ≡ lacking (deckOf (s .typed))
+        lacking-is = missing-is ∙ ap₂ without deck-vars (covered-is (deckOf (s .typed) .equations) (deck-lefts sorts s r))
 
       pub lacks-one : (v : ℕ) (x : DeckRead) → (m ≡ 0 → ⊥) → v ≡ lowestOf m → x ≡ deckRead (Refused (NoEquation v)) → (s : Sofar) → Typing s → x ≡ deckRead (complete (deckOf (s .typed)))
-      lacks-one v x h l q s r = q ∙ rw (judged s r, ne-eqb m 0 h, l) refl
+      lacks-one v x h l q s r = q ∙ rw (complete-some (deckOf (s .typed)) m (lacking-is s r) h, l) refl
 
       pub lacks-none : m ≡ 0 → (s : Sofar) → Typing s
           → record { answer = Fine; deck = record { vars = vars; inits = inits; initials = held .initials; lefts = tl; ends = te; equations = held .equations; nodes = tn; property = property; size = held .size } } ≡ deckRead (complete (deckOf (s .typed)))
@@ -129,4 +125,4 @@ module _ (held : Held) (inits lefts ends nodes′ property : List ℕ) where
       lacks-none h s r =
           let q = deck-held sorts s r in
           let p : PropertyHeld DueNone (s .typed .property) (held .size) property = subst (λ (u : Due). PropertyHeld u (s .typed .property) (held .size) property) (r .ended) (r .holds .property-is) in
-          rw (judged s r, h, deck-vars s r, r .holds .inits-are, ap (λ (x : Held). x .initials) (r .holds .held-is), q .lefts-are, q .ends-are, q .count-is, q .nodes-are, p .1, p .0) refl
+          rw (complete-none (deckOf (s .typed)) m (lacking-is s r) h, deck-vars s r, r .holds .inits-are, ap (λ (x : Held). x .initials) (r .holds .held-is), q .lefts-are, q .ends-are, q .count-is, q .nodes-are, p .1, p .0) refl

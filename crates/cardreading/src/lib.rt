@@ -16,16 +16,6 @@ ghost use Rattle.statements.specs.Hold.{Formed};
 ghost use Rattle.cardlines.specs.Held.{Came};
 ghost use Rattle.cardreading.specs.Finished.{Ready, Empty};
 
-// A refusal, and the deck of zeros beside it.
-fn refused(a: decks::Answer) -> decks::DeckRead
-    ensures { λ r. ⌜ r ≡ deckRead (Refused a) ⌝ }
-{
-    decks::DeckRead {
-        answer: a,
-        deck: decks::no_deck(),
-    }
-}
-
 // The set of the first variables.
 fn first_vars(count: usize) -> u64
     requires { ⌜ count ≤ base .variables ⌝ }
@@ -121,7 +111,7 @@ fn finished<'a>(
     let vars = first_vars(held.count);
     let missing = sets::without(vars, sorting::left_set(&to_lefts, held.equations));
     if missing != 0 {
-        return refused(decks::Answer::NoEquation(sets::lowest(missing) as u64));
+        return decks::refused(decks::Answer::NoEquation(sets::lowest(missing) as u64));
     }
     decks::DeckRead {
         answer: decks::Answer::Fine,
@@ -161,11 +151,11 @@ fn second_pass(text: &[u8]) -> decks::DeckRead
     );
     if !r.fine {
         let a = r.answer;
-        return refused(a);
+        return decks::refused(a);
     }
     let held = r.held;
     if held.due != cardlines::DUE_NONE {
-        return refused(decks::Answer::NotDue(0));
+        return decks::refused(decks::Answer::NotDue(0));
     }
     finished(held, inits, property, &lefts, &ends, &nodes)
 }
@@ -175,11 +165,11 @@ pub fn read_cards(text: &[u8]) -> decks::DeckRead
     ensures { λ r. ⌜ r ≡ deckRead (readCards (now (text .entry))) ⌝ }
 {
     if text.len() > decks::TEXT {
-        return refused(decks::Answer::TooLong(1));
+        return decks::refused(decks::Answer::TooLong(1));
     }
     let a = firstpass::first_pass(text);
     let decks::Answer::Fine = a else {
-        return refused(a);
+        return decks::refused(a);
     };
     second_pass(text)
 }

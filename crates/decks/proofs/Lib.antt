@@ -2,3 +2,4 @@ pub mod Outcomes
 pub mod Complete
 pub mod Stored
 pub mod Rows
+pub mod Levels

@@ -4,8 +4,8 @@ ghost use Prim.Native.Nat.{ℕ, _+_, _*_, _<_, _≤_};
 ghost use lib.ListN.{length, take, drop, getD, set, replicate};
 ghost use Rattle.lists.specs.Lists.{stands};
 ghost use Rattle.logic.specs.Decks.{Limits, base};
-ghost use Rattle.decks.specs.Answers.{replyOf};
-ghost use Rattle.decks.specs.Stored.{blank, sizesOf};
+ghost use Rattle.decks.specs.Answers.{Refused, replyOf};
+ghost use Rattle.decks.specs.Stored.{blank, deckRead, sizesOf};
 
 // Document 01's sizes.
 pub const TEXT: usize = 64800;
@@ -273,5 +273,15 @@ pub fn no_deck() -> Deck
         nodes: [0; EQUATION_NODES],
         property: [0; PROPERTY_NODES],
         size: 0,
+    }
+}
+
+// A refusal, and the deck of zeros beside it.
+pub fn refused(a: Answer) -> DeckRead
+    ensures { λ r. ⌜ r ≡ deckRead (Refused a) ⌝ }
+{
+    DeckRead {
+        answer: a,
+        deck: no_deck(),
     }
 }

@@ -5,7 +5,7 @@ use Rattle.cardreading.proofs.finished.Tie as tie
 use Rattle.cardreading.proofs.finished.Reads as reads
 use Rattle.cardreading.proofs.finished.Lts as lts
 use Rattle.cardreading.proofs.first_vars.Reads as first-vars-reads
-use Rattle.cardreading.proofs.refused.Reads as refused-reads
+use Rattle.decks.proofs.refused.Reads as refused-reads
 use Rattle.sets.proofs.lowest.Reads as lowest-reads
 use Rattle.sets.proofs.without.Reads as without-reads
 use Rattle.sorting.proofs.left_set.Reads as left-set-reads

@@ -4,7 +4,7 @@ use Rattle.cardreading.proofs.read_cards.Statement.{statement}
 use Rattle.cardreading.proofs.read_cards.Tie as tie
 use Rattle.cardreading.proofs.read_cards.Reads as reads
 use Rattle.cardreading.proofs.read_cards.Lts as lts
-use Rattle.cardreading.proofs.refused.Reads as refused-reads
+use Rattle.decks.proofs.refused.Reads as refused-reads
 use Rattle.cardreading.proofs.second_pass.Reads as second-pass-reads
 use Rattle.firstpass.proofs.first_pass.Reads as first-pass-reads
 

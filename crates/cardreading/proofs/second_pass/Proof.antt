@@ -6,7 +6,7 @@ use Rattle.cardreading.proofs.second_pass.Reads as reads
 use Rattle.cardreading.proofs.second_pass.Lts as lts
 use Rattle.cardreading.proofs.all_statements.Reads as all-statements-reads
 use Rattle.cardreading.proofs.finished.Reads as finished-reads
-use Rattle.cardreading.proofs.refused.Reads as refused-reads
+use Rattle.decks.proofs.refused.Reads as refused-reads
 
 -- src/lib.rt:155:9
 slice-aggregate-all-statements : tie.Need-slice-aggregate-all-statements

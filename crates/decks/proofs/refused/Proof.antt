@@ -1,9 +1,9 @@
 use borrow.Author.Needs.{needs}
-use Rattle.cardreading.proofs.refused.Statement.{statement}
-use Rattle.cardreading.proofs.refused.Tie as tie
-use Rattle.cardreading.proofs.refused.Reads as reads
-use Rattle.cardreading.proofs.refused.Lts as lts
+use Rattle.decks.proofs.refused.Statement.{statement}
+use Rattle.decks.proofs.refused.Tie as tie
+use Rattle.decks.proofs.refused.Reads as reads
+use Rattle.decks.proofs.refused.Lts as lts
 use Rattle.decks.proofs.no_deck.Reads as no-deck-reads
 
 -- src/lib.rt:24:15
 no-deck-requires : tie.Need-no-deck-requires
