@@ -1,5 +1,6 @@
 // The reader of cards: a text of cards read as a deck.
 ghost use mathlib.Core.Path.{_≡_};
+ghost use mathlib.Core.Bool.{true};
 ghost use Prim.Native.Nat.{ℕ, _+_, _-_, _^_, _<_, _≤_};
 ghost use lib.ListN.{length, drop, replicate};
 ghost use Rattle.logic.specs.Decks.{base};
