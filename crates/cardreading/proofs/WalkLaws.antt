@@ -140,15 +140,16 @@ module _ (text : List ℕ) (at n : ℕ) (held : Held) (inits lefts ends nodes pr
   walked-none t r w k f q = walked-all r w (found-none (following text at n) (following text (t .at) (t .n)) (t .stmt) (t .found) (k .first) (not-true (t .found) f)) q
 
 -- A statement taken at place at and read: what is known behind it.
-pub record Turn (text : List ℕ) (at n : ℕ) (held : Held) (inits lefts ends nodes property : List ℕ) (t : Taken) (card : ℕ) (r : StatementRead) (inits′ lefts′ ends′ nodes′ property′ : List ℕ) : Type 0 where
+pub record Turn (text : List ℕ) (at n : ℕ) (held : Held) (inits lefts ends nodes property : List ℕ) (t : Taken) (r : StatementRead) (inits′ lefts′ ends′ nodes′ property′ : List ℕ) : Type 0 where
   pub walked : Walked text at n held inits lefts ends nodes property
   pub takes : Takes text at n t
   pub found : not (t .found) ≡ false
-  pub card-is : card ≡ getD (t .stmt .cards) 0 0
+  pub card : ℕ
   pub came : (s : Sofar) → Holds s held inits lefts ends nodes property → Came (dueStatement (s .due) card (ahead (t .stmt .chars) 0 (t .stmt .used)) (s .typed)) r inits′ lefts′ ends′ nodes′ property′
+  pub card-is : card ≡ getD (t .stmt .cards) 0 0
 
-module _ (text : List ℕ) (at n : ℕ) (held : Held) (inits lefts ends nodes property : List ℕ) (t : Taken) (card : ℕ) (r : StatementRead) (inits′ lefts′ ends′ nodes′ property′ : List ℕ)
-    (u : Turn text at n held inits lefts ends nodes property t card r inits′ lefts′ ends′ nodes′ property′) where
+module _ (text : List ℕ) (at n : ℕ) (held : Held) (inits lefts ends nodes property : List ℕ) (t : Taken) (r : StatementRead) (inits′ lefts′ ends′ nodes′ property′ : List ℕ)
+    (u : Turn text at n held inits lefts ends nodes property t r inits′ lefts′ ends′ nodes′ property′) where
   abbrev before : Sofar
   before = u .walked .sofar
 
@@ -167,7 +168,7 @@ module _ (text : List ℕ) (at n : ℕ) (held : Held) (inits lefts ends nodes pr
       let s = in-hand text at n t (u .takes) (u .found) in (
         s .0,
         u .walked .rest-is ∙ ap (λ (ss : List Statement). walk statementRead k ss before) (s .2),
-        subst CameTo (judged (s .0) (t .stmt) card k before (s .1) (u .card-is)) (u .came before (u .walked .holds)),
+        subst CameTo (judged (s .0) (t .stmt) (u .card) k before (s .1) (u .card-is)) (u .came before (u .walked .holds)),
       )
 
   pub turn-less : at < length text → length text - t .at < length text - at

@@ -1,6 +1,6 @@
 use mathlib.Core.Path.{_≡_, refl}
 use Prim.Native.Nat.{_+_, _-_, _≤_}
-use lib.ListN.{length, drop, getD}
+use lib.ListN.{length, drop}
 use borrow.Author.Needs.{needs, length-unmapped}
 use Rattle.cards.specs.Card.{cardsOf}
 use Rattle.statements.specs.Hold.{Formed}
@@ -22,16 +22,17 @@ Inv-loop text inits₀ scratch₀ lefts₀ ends₀ nodes₀ property₀ held₀ 
 abbrev μ-loop : tie.MeasureT-loop
 μ-loop text inits₀ scratch₀ lefts₀ ends₀ nodes₀ property₀ held₀ at₀ n₀ inits scratch lefts ends nodes property held at n = length text - at
 
--- Behind statement_read: the loop's head, the statement taken, and that there was one.
+-- Seen from behind statement_read: the loop's head, and where the statement was taken.
 abbrev head : tie.After-statement-read Inv-loop μ-loop → tie.At-loop Inv-loop μ-loop
 head c = c .before .before .before .before .before .before .before .before .before .before .before .before .before .before .before .before
 
 abbrev took : tie.After-statement-read Inv-loop μ-loop → tie.After-next-statement Inv-loop μ-loop
 took c = c .before .before .before .before .before .before .before .before .before .before .before .before .before .before
 
+-- What is known behind statement_read.
 turn : (c : tie.After-statement-read Inv-loop μ-loop)
-    → laws.Turn (head c .before .before .before .before .before .before .before .before .before .args .text .now) (head c .loop .at) (head c .loop .n) (head c .loop .held) (head c .loop .inits) (head c .loop .lefts) (head c .loop .ends) (head c .loop .nodes) (head c .loop .property) (took c .next-statement .result) (getD (took c .next-statement .result .stmt .cards) 0 0) (c .statement-read .result) (c .statement-read .last .1 .1 .1 .1 .0) (c .statement-read .last .1 .1 .1 .1 .1 .1 .0) (c .statement-read .last .1 .1 .1 .1 .1 .1 .1 .0) (c .statement-read .last .1 .1 .1 .1 .1 .1 .1 .1 .0) (c .statement-read .last .1 .1 .1 .1 .1 .1 .1 .1 .1 .0)
-turn c = record { walked = head c .loop .inv .4; takes = took c .next-statement .ensures; found = c .before .before .before .before .before .before .before .before .before .before .before .before .if1 .left; card-is = refl; came = c .statement-read .ensures .2 }
+    → laws.Turn (head c .before .before .before .before .before .before .before .before .before .args .text .now) (head c .loop .at) (head c .loop .n) (head c .loop .held) (head c .loop .inits) (head c .loop .lefts) (head c .loop .ends) (head c .loop .nodes) (head c .loop .property) (took c .next-statement .result) (c .statement-read .result) (c .statement-read .last .1 .1 .1 .1 .0) (c .statement-read .last .1 .1 .1 .1 .1 .1 .0) (c .statement-read .last .1 .1 .1 .1 .1 .1 .1 .0) (c .statement-read .last .1 .1 .1 .1 .1 .1 .1 .1 .0) (c .statement-read .last .1 .1 .1 .1 .1 .1 .1 .1 .1 .0)
+turn c = record { walked = head c .loop .inv .4; takes = took c .next-statement .ensures; found = c .before .before .before .before .before .before .before .before .before .before .before .before .if1 .left; card = _; came = c .statement-read .ensures .2; card-is = refl }
 
 rows : (c : tie.After-statement-read Inv-loop μ-loop)
     → laws.SameLengths (head c .before .before .before .before .before .before .before .before .before .args .inits .now) (head c .before .before .before .before .before .before .before .before .before .args .scratch .now) (head c .before .before .before .before .before .before .before .before .before .args .lefts .now) (head c .before .before .before .before .before .before .before .before .before .args .ends .now) (head c .before .before .before .before .before .before .before .before .before .args .nodes .now) (head c .before .before .before .before .before .before .before .before .before .args .property .now) (c .statement-read .last .1 .1 .1 .1 .0) (c .statement-read .last .1 .1 .1 .1 .1 .0) (c .statement-read .last .1 .1 .1 .1 .1 .1 .0) (c .statement-read .last .1 .1 .1 .1 .1 .1 .1 .0) (c .statement-read .last .1 .1 .1 .1 .1 .1 .1 .1 .0) (c .statement-read .last .1 .1 .1 .1 .1 .1 .1 .1 .1 .0)
@@ -115,15 +116,15 @@ same-length-12 c = rows (c .before .before .before .before .before .before .befo
 
 -- src/lib.rt:76:13
 returns-2 : tie.Need-returns-2 Inv-loop μ-loop
-returns-2 c = laws.walked-refused _ _ _ _ _ _ _ _ _ _ _ _ _ _ _ _ _ (turn (c .before .before .before .before .before .before .before .before .before .before .before .before .before .before)) (c .if2 .taken)
+returns-2 c = laws.walked-refused _ _ _ _ _ _ _ _ _ _ _ _ _ _ _ _ (turn (c .before .before .before .before .before .before .before .before .before .before .before .before .before .before)) (c .if2 .taken)
 
 -- src/lib.rt:56:5
 loop-less : tie.Need-loop-less Inv-loop μ-loop
-loop-less c = laws.turn-less _ _ _ _ _ _ _ _ _ _ _ _ _ _ _ _ _ (turn (c .before .before .before .before .before .before .before .before .before .before .before .before .before .before .before)) (c .before .before .before .before .before .before .before .before .before .before .before .before .before .before .before .before .before .before .before .before .before .before .before .before .before .before .before .before .before .before .loop-test .taken)
+loop-less c = laws.turn-less _ _ _ _ _ _ _ _ _ _ _ _ _ _ _ _ (turn (c .before .before .before .before .before .before .before .before .before .before .before .before .before .before .before)) (c .before .before .before .before .before .before .before .before .before .before .before .before .before .before .before .before .before .before .before .before .before .before .before .before .before .before .before .before .before .before .loop-test .taken)
 
 -- src/lib.rt:56:5
 loop-again : tie.Need-loop-again Inv-loop μ-loop
-loop-again c = (took (c .before .before .before .before .before .before .before .before .before .before .before .before .before .before .before) .next-statement .ensures .near, took (c .before .before .before .before .before .before .before .before .before .before .before .before .before .before .before) .next-statement .ensures .formed, c .before .before .before .before .before .before .before .before .before .before .before .before .before .before .before .statement-read .ensures .1, rows (c .before .before .before .before .before .before .before .before .before .before .before .before .before .before .before), laws.walked-on _ _ _ _ _ _ _ _ _ _ _ _ _ _ _ _ _ (turn (c .before .before .before .before .before .before .before .before .before .before .before .before .before .before .before)) (c .before .if2 .left))
+loop-again c = (took (c .before .before .before .before .before .before .before .before .before .before .before .before .before .before .before) .next-statement .ensures .near, took (c .before .before .before .before .before .before .before .before .before .before .before .before .before .before .before) .next-statement .ensures .formed, c .before .before .before .before .before .before .before .before .before .before .before .before .before .before .before .statement-read .ensures .1, rows (c .before .before .before .before .before .before .before .before .before .before .before .before .before .before .before), laws.walked-on _ _ _ _ _ _ _ _ _ _ _ _ _ _ _ _ (turn (c .before .before .before .before .before .before .before .before .before .before .before .before .before .before .before)) (c .before .if2 .left))
 
 -- src/lib.rt:82:5
 went-requires-2 : tie.Need-went-requires-2 Inv-loop μ-loop
