@@ -84,9 +84,9 @@ fn written(read: decks::DeckRead, out: &mut [u8]) -> CountReply
     ensures { λ r. ⌜ ((o : Outcome Deck) → Readable o → read ≡ deckRead o → (r ≡ writeReply o (now (out .entry))) × (now (out .exit) ≡ writeBuffer o (now (out .entry)))) ⌝ }
 {
     let answer = read.answer;
-    let a = decks::reply_of(answer);
-    if a.number != 0 {
-        return refusal(a);
+    let before = decks::reply_of(answer);
+    if before.number != 0 {
+        return refusal(before);
     }
     let w = texts::write_deck(read.deck, out);
     let answer = w.answer;
@@ -158,7 +158,8 @@ fn checked(read: decks::DeckRead, claim: &[u8]) -> decks::Reply
     if b.number != 0 {
         return b;
     }
-    decks::reply_of(judged(d, m))
+    let verdict = judged(d, m);
+    decks::reply_of(verdict)
 }
 
 // A deck of cards, read.
