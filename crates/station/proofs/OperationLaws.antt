@@ -70,7 +70,10 @@ cards-readable text = readable (readCards text) (cards-numbered text) (cards-acc
 pub frames-readable : (text : List ℕ) → Readable (readDeck text)
 frames-readable text = readable (readDeck text) (deck-numbered text) (deck-read-accepted text)
 
--- What was read of a text of frames.
+-- What was read of a text of cards, or of frames.
+abbrev pub cards-read : (text : List ℕ) (read : DeckRead) → read ≡ deckRead (readCards text) → (o : Outcome Deck) × Readable o × (read ≡ deckRead o)
+cards-read text read e = (readCards text, cards-readable text, e)
+
 abbrev pub frames-read : (text : List ℕ) (read : DeckRead) → read ≡ deckRead (readDeck text) → (o : Outcome Deck) × Readable o × (read ≡ deckRead o)
 frames-read text read e = (readDeck text, frames-readable text, e)
 
