@@ -128,6 +128,15 @@ write-got (Got d) out h z =
     (filled-as (deckFrames d) out)
 write-got (Refused a) out h z = absurd (omega (arith, fault a h .0, z))
 
+-- A write without room.
+pub write-no-room : (o : Outcome Deck) (out : List ℕ) → Numbered o → writeReply o out .number ≡ 17 → (d : Deck) × (o ≡ Got d) × (length out < length (deckFrames d))
+write-no-room (Got d) out h z =
+    ⊎-elim
+    (λ (l, e). (d, refl, l))
+    (λ (l, e). absurd (omega (arith, z, ap (λ (f : Filled). replyOf (f .report .answer) .number) e)))
+    (filled-as (deckFrames d) out)
+write-no-room (Refused a) out h z = absurd (omega (arith, fault a h .1, z))
+
 -- ---- reductions
 
 -- The pieces do not fit and nothing changes, or they fit and stand in the first bytes.

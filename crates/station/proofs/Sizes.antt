@@ -1,7 +1,7 @@
 -- The lengths of a buffer that always suffice: for a deck, and for all its pieces.
 use mathlib.Core.Path.{_≡_, refl, sym, ap, _∙_}
 use mathlib.Core.List.{List, [], _∷_, _++_, map}
-use Prim.Native.Nat.{ℕ, _+_, _*_, _≤_}
+use Prim.Native.Nat.{ℕ, _+_, _*_, _<_, _≤_}
 use native.Mathlib.Omega.{arith}
 use lib.ListN.{length, length-append}
 use Rattle.lists.specs.Lists.{Each}
@@ -9,9 +9,20 @@ use Rattle.logic.specs.Expressions.{Expr, Const, Var, One, Two, And, Or, Until,
 use Rattle.logic.specs.Decks.{Deck, Accepted, base}
 use Rattle.logic.specs.Pieces.{split, pieces}
 use Rattle.logic.proofs.Pieces.{pieces-split, pieces-accepted}
+use Rattle.decks.specs.Answers.{Outcome, Got}
 use Rattle.frames.specs.Written.{deckFrames}
+use Rattle.frames.specs.Read.{readDeck}
+use Rattle.frames.proofs.DeckTheorems.{deck-read-accepted}
 use Rattle.frames.proofs.SizeLaws.{length-deck-frames}
 use Rattle.pieces.specs.Reduced.{allFrames, pieceBytes}
+use Rattle.cards.specs.Read.{readCards}
+use Rattle.cards.proofs.NothingDropped.{cards-accepted}
+use Rattle.station.specs.declared.CountReply.{CountReply}
+use Rattle.station.specs.Promises.{writeReply, reduceReply, WritesCards, WritesFrames, ReducesCards, ReducesFrames}
+use Rattle.station.proofs.Numbered.{Numbered}
+use Rattle.station.proofs.NumberedCards.{cards-numbered}
+use Rattle.station.proofs.NumberedFrames.{deck-numbered}
+use Rattle.station.proofs.ReplyLaws.{write-no-room, reduce-no-room}
 
 abbrev pub deckMost : ℕ
 deckMost = 6877
@@ -77,3 +88,25 @@ pieces-most d ok =
       as-many-nodes (split (d .property)),
       ok .property-nodes,
     )
+
+-- ---- buffers of these lengths are not refused with 17
+
+module _ (o : Outcome Deck) (numbered : Numbered o) (accepted : (d : Deck) → o ≡ Got d → Accepted base d) (out : List ℕ) where
+  write-room : deckMost ≤ length out → writeReply o out .number ≡ 17 → ⊥
+  write-room h z = let (d, e, l) = write-no-room o out numbered z in omega (arith, h, l, deck-most d (accepted d e))
+
+  reduce-room : piecesMost ≤ length out → reduceReply o out .number ≡ 17 → ⊥
+  reduce-room h z = let (d, e, l, p) = reduce-no-room o out numbered z in omega (arith, h, l, pieces-most d (accepted d e))
+
+module _ (text out : List ℕ) (r : CountReply) (after : List ℕ) where
+  pub room-writes-cards : WritesCards text out r after → deckMost ≤ length out → r .number ≡ 17 → ⊥
+  room-writes-cards p h z = write-room (readCards text) (cards-numbered text) (cards-accepted text) out h (sym (ap (λ (x : CountReply). x .number) (p .0)) ∙ z)
+
+  pub room-writes-frames : WritesFrames text out r after → deckMost ≤ length out → r .number ≡ 17 → ⊥
+  room-writes-frames p h z = write-room (readDeck text) (deck-numbered text) (deck-read-accepted text) out h (sym (ap (λ (x : CountReply). x .number) (p .0)) ∙ z)
+
+  pub room-reduces-cards : ReducesCards text out r after → piecesMost ≤ length out → r .number ≡ 17 → ⊥
+  room-reduces-cards p h z = reduce-room (readCards text) (cards-numbered text) (cards-accepted text) out h (sym (ap (λ (x : CountReply). x .number) (p .0)) ∙ z)
+
+  pub room-reduces-frames : ReducesFrames text out r after → piecesMost ≤ length out → r .number ≡ 17 → ⊥
+  room-reduces-frames p h z = reduce-room (readDeck text) (deck-numbered text) (deck-read-accepted text) out h (sym (ap (λ (x : CountReply). x .number) (p .0)) ∙ z)
