@@ -1,7 +1,7 @@
 /* Runs the library and the reference on the same inputs in this process, holds
    every reply of the one against the other's, and prints how their times
    compare and how much stack each operation used. */
-#include "../include/micaplume.h"
+#include "micaplume.h"
 #include "../tests/reference/reference.h"
 #include "inputs.h"
 
