@@ -25,7 +25,7 @@ use Rattle.grammar.specs.Readers.{Numbers, Words}
 use Rattle.grammar.specs.declared.Digits.{Digits}
 use Rattle.grammar.specs.declared.Word.{Word}
 use Rattle.sorting.specs.Sorting.{Added}
-use Rattle.sorting.proofs.More.{total-more, equations-more}
+use Rattle.decks.proofs.Stored.{total-more, equations-more}
 use Rattle.cardlines.specs.declared.Held.{Held}
 use Rattle.cardlines.specs.declared.StatementRead.{StatementRead}
 use Rattle.cardlines.specs.declared.ExprRead.{ExprRead}

@@ -103,21 +103,6 @@ fn at_end(chars: &[u8], at: usize, end: usize) -> bool
     end <= place
 }
 
-// Whether a state is among the first of a row of states.
-fn stands_in(states: &[u64], count: usize, s: u64) -> bool
-    requires { ⌜ count ≤ length (now states) ⌝ }
-    ensures { λ r. ⌜ r ≡ stands s (take count (now (states .entry))) ⌝ }
-{
-    let mut i = 0;
-    while i < count {
-        if s == decks::state_at(states, i) {
-            return true;
-        }
-        i += 1;
-    }
-    false
-}
-
 fn wide(n: u16) -> usize
     ensures { λ r. ⌜ r ≡ n ⌝ }
 {
@@ -232,7 +217,7 @@ fn init_statement(
     if decks::INITIALS < typed {
         return stopped(decks::Answer::ManyInitials(n));
     }
-    if stands_in(inits, h.initials, b.state) {
+    if decks::stands_in(inits, h.initials, b.state) {
         return StatementRead {
             fine: true,
             answer: decks::Answer::Fine,

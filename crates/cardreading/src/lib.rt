@@ -1,5 +1,6 @@
 // The reader of cards: a text of cards read as a deck.
 ghost use mathlib.Core.Path.{_≡_};
+ghost use mathlib.Core.Bool.{true};
 ghost use Prim.Native.Nat.{ℕ, _+_, _-_, _^_, _<_, _≤_};
 ghost use lib.ListN.{length, drop, replicate};
 ghost use Rattle.logic.specs.Decks.{base};
@@ -14,16 +15,6 @@ ghost use Rattle.cards.specs.Read.{Sofar, begun, statementRead, cardsEnd, readC
 ghost use Rattle.statements.specs.Hold.{Formed};
 ghost use Rattle.cardlines.specs.Held.{Came};
 ghost use Rattle.cardreading.specs.Finished.{Ready, Empty};
-
-// A refusal, and the deck of zeros beside it.
-fn refused(a: decks::Answer) -> decks::DeckRead
-    ensures { λ r. ⌜ r ≡ deckRead (Refused a) ⌝ }
-{
-    decks::DeckRead {
-        answer: a,
-        deck: decks::no_deck(),
-    }
-}
 
 // The set of the first variables.
 fn first_vars(count: usize) -> u64
@@ -120,7 +111,7 @@ fn finished<'a>(
     let vars = first_vars(held.count);
     let missing = sets::without(vars, sorting::left_set(&to_lefts, held.equations));
     if missing != 0 {
-        return refused(decks::Answer::NoEquation(sets::lowest(missing) as u64));
+        return decks::refused(decks::Answer::NoEquation(sets::lowest(missing) as u64));
     }
     decks::DeckRead {
         answer: decks::Answer::Fine,
@@ -160,11 +151,11 @@ fn second_pass(text: &[u8]) -> decks::DeckRead
     );
     if !r.fine {
         let a = r.answer;
-        return refused(a);
+        return decks::refused(a);
     }
     let held = r.held;
     if held.due != cardlines::DUE_NONE {
-        return refused(decks::Answer::NotDue(0));
+        return decks::refused(decks::Answer::NotDue(0));
     }
     finished(held, inits, property, &lefts, &ends, &nodes)
 }
@@ -174,11 +165,11 @@ pub fn read_cards(text: &[u8]) -> decks::DeckRead
     ensures { λ r. ⌜ r ≡ deckRead (readCards (now (text .entry))) ⌝ }
 {
     if text.len() > decks::TEXT {
-        return refused(decks::Answer::TooLong(1));
+        return decks::refused(decks::Answer::TooLong(1));
     }
     let a = firstpass::first_pass(text);
     let decks::Answer::Fine = a else {
-        return refused(a);
+        return decks::refused(a);
     };
     second_pass(text)
 }

@@ -16,36 +16,10 @@ use Rattle.decks.specs.Answers.{Outcome, Got, Refused}
 use Rattle.decks.specs.Readings.{Reading, Whole, Wrong, Deep, onward}
 use Rattle.cards.specs.Grammar.{Counted, Number, NoNumber, readNumber, Sign, Constant, Variable, Before, Bracket, NoSign, signOf, jointOf, past, pastJoint, variable, levelled, begins, readExpr}
 use Rattle.cards.specs.Read.{wholeExpr}
+use Rattle.cards.specs.Deep.{beginners, BeginsOne, Opens, Spells, TooFar}
 use Rattle.decks.proofs.Outcomes.{refused-got}
 use Rattle.cards.proofs.GrammarLaws.{Begins, sign-begins, Joins, joint-joins, read-sign, one-sign, bracket-sign, past-joint, two-no-digit, spelling-read, read-spelling}
 use Rattle.cards.proofs.WordLaws.{whole-expr-spelt, whole-expr-got}
-
--- ---- the conditions
-
--- One of `0 1 V ~ X F G (`.
-abbrev pub beginners : List ℕ
-beginners = character "0" ∷ character "1" ∷ character "V" ∷ character "~" ∷ character "X" ∷ character "F" ∷ character "G" ∷ character "(" ∷ []
-
--- The text begins with one of them.
-abbrev pub BeginsOne : List ℕ → Type 0
-BeginsOne [] = ⊥
-BeginsOne (c ∷ cs) = c among beginners
-
--- The characters that stand before an expression k levels down: on each level an operator, or a parenthesis, or a parenthesis, its whole first operand and the operator behind it.
-abbrev pub Opens : ℕ → List ℕ → Type 0
-Opens zero front = front ≡ []
-Opens (suc k) front =
-    ((o : Op1) × (rest : List ℕ) × (front ≡ sign1 o ∷ rest) × Opens k rest)
-    ⊎ (((rest : List ℕ) × (front ≡ character "(" ∷ rest) × Opens k rest)
-    ⊎ ((a : Expr) × (o : Op2) × (rest : List ℕ) × (front ≡ character "(" ∷ (spelling a ++ (sign2 o ∷ rest))) × (levels a ≤ k) × Below 100 a × Opens k rest))
-
--- The characters are the spelling of e, within the levels and with numbers of one or two digits.
-abbrev pub Spells : List ℕ → Expr → Type 0
-Spells cs e = (cs ≡ spelling e) × (levels e ≤ base .levels) × Below 100 e
-
--- An expression begins at the level behind the last, and all that stands to the left of it is in order.
-abbrev pub TooFar : List ℕ → Type 0
-TooFar cs = (front : List ℕ) × (rest : List ℕ) × (cs ≡ front ++ rest) × Opens (base .levels) front × BeginsOne rest
 
 -- ---- what a deep reading says
 

@@ -15,6 +15,7 @@ use Rattle.logic.specs.Expressions.{Expr, Const, Var, One, Two, Op1, Op2, Not, 
 use Rattle.logic.proofs.Codes.{levels-some}
 use Rattle.logic.proofs.Spelling.{Digit, NoDigit, decimal-one, decimal-two}
 use Rattle.decks.specs.Readings.{Reading, Whole, Wrong, Deep, onward}
+use Rattle.decks.proofs.Levels.{Same, same-refl, same-onward, Shallow, shallow-same}
 use Rattle.cards.specs.Card.{isDigit}
 use Rattle.cards.specs.Grammar.{Counted, Number, NoNumber, digitValue, secondDigit, readNumber, Sign, Constant, Variable, Before, Bracket, NoSign, signOf, jointOf, past, pastJoint, variable, levelled, begins, readExpr}
 
@@ -292,22 +293,6 @@ spelling-read (Two o a b) (suc left) rest h n d =
 
 -- ---- one level more
 
--- The second reading is the first, where that did not meet its last level.
-abbrev Same : Reading → Reading → Type 0
-Same (Whole e rs) r = r ≡ Whole e rs
-Same (Wrong rs) r = r ≡ Wrong rs
-Same (Deep rs) r = Unit
-
-same-refl : (r : Reading) → Same r r
-same-refl (Whole e rs) = refl
-same-refl (Wrong rs) = refl
-same-refl (Deep rs) = tt
-
-same-onward : (r t : Reading) (f g : Expr → List ℕ → Reading) → Same r t → ((e : Expr) (rs : List ℕ) → Same (f e rs) (g e rs)) → Same (onward r f) (onward t g)
-same-onward (Whole e rs) t f g s k = rw s (k e rs)
-same-onward (Wrong rs) t f g s k = rw s
-same-onward (Deep rs) t f g s k = tt
-
 same-joint : (cs : List ℕ) (f g : Op2 → List ℕ → Reading) → ((o : Op2) (rs : List ℕ) → Same (f o rs) (g o rs)) → Same (pastJoint cs f) (pastJoint cs g)
 unfolding pastJoint
 same-joint [] f g k = refl
@@ -333,24 +318,13 @@ same-begins f g all cs Bracket k =
     same-joint more _ _ (λ o second. same-onward (f second) (g second) _ _ (k second) (λ b last. same-refl (past (character ")") last (λ rest. Whole (Two o a b) rest)))))
 same-begins f g all cs NoSign k = refl
 
-same-levels : (left : ℕ) (cs : List ℕ) → Same (readExpr left cs) (readExpr (suc left) cs)
+pub same-levels : (left : ℕ) (cs : List ℕ) → Same (readExpr left cs) (readExpr (suc left) cs)
 unfolding readExpr
 same-levels zero [] = refl
 same-levels zero (c ∷ cs) = same-levelled (readExpr zero) (c ∷ cs) cs (signOf c)
 same-levels (suc left) [] = refl
 same-levels (suc left) (c ∷ cs) = same-begins (readExpr left) (readExpr (suc left)) (c ∷ cs) cs (signOf c) (same-levels left)
 
--- The reading did not meet a character that begins an expression below its last level.
-abbrev pub Shallow : Reading → Type 0
-Shallow (Whole e rs) = Unit
-Shallow (Wrong rs) = Unit
-Shallow (Deep rs) = ⊥
-
 -- One level more changes neither a result nor a fault and its place.
 pub more-levels : (left : ℕ) (cs : List ℕ) → Shallow (readExpr left cs) → readExpr (suc left) cs ≡ readExpr left cs
-more-levels left cs = go (readExpr left cs) (same-levels left cs)
-  where
-    go : (r : Reading) → Same r (readExpr (suc left) cs) → Shallow r → readExpr (suc left) cs ≡ r
-    go (Whole e rs) s h = s
-    go (Wrong rs) s h = s
-    go (Deep rs) s h = absurd h
+more-levels left cs = shallow-same (readExpr left cs) (readExpr (suc left) cs) (same-levels left cs)

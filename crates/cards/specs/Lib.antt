@@ -4,3 +4,4 @@ pub mod Grammar
 pub mod Typed
 pub mod Read
 pub mod Columns
+pub mod Deep

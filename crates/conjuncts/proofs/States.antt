@@ -13,25 +13,6 @@ use Rattle.lists.proofs.Laws.{true-stands, false-stands, stands-firsts, firsts-
 use Rattle.sets.specs.Sets.{meet}
 use Rattle.logic.specs.Pieces.{projected}
 
--- ---- whether a state stands in the first places of a row
-
-module _ (row : List ℕ) (n s : ℕ) where
-  pub stands-start : stands s (take n row) ≡ stands s (part 0 n row)
-  stands-start = let z : n ≡ n - 0 = omega arith in ap (λ (k : ℕ). stands s (take k row)) z
-
-  module _ (i : ℕ) (all : Bool) (e : all ≡ stands s (part i n row)) where
-    pub stands-met : i < n → n ≤ length row → getD row i 0 ≡ s → true ≡ all
-    unfolding stands
-    stands-met h l q = sym (e ∙ ap (stands s) (part-next row i n h (omega arith)) ∙ simp (eq-eqb s (getD row i 0) (sym q), stands))
-
-    pub stands-on : i < n → n ≤ length row → (getD row i 0 ≡ s → ⊥) → all ≡ stands s (part (i + 1) n row)
-    unfolding stands
-    stands-on h l q = e ∙ ap (stands s) (part-next row i n h (omega arith)) ∙ simp (ne-eqb s (getD row i 0) (λ d. q (sym d)), stands)
-
-    pub stands-done : n ≤ i → false ≡ all
-    unfolding stands
-    stands-done h = sym (e ∙ ap (stands s) (part-done row i n h))
-
 -- ---- one more state
 
 module _ (row : List ℕ) (n s : ℕ) (b : Bool) (e : b ≡ stands s (take n row)) where

@@ -3,7 +3,7 @@ ghost use mathlib.Core.Path.{_≡_};
 ghost use mathlib.Core.List.{List, [], _∷_, _++_};
 ghost use Prim.Native.Nat.{ℕ, _+_, _<_, _≤_};
 ghost use lib.ListN.{length, take, getD, set as put};
-ghost use Rattle.lists.specs.Lists.{stands, firsts, splice};
+ghost use Rattle.lists.specs.Lists.{firsts, splice};
 ghost use Rattle.logic.specs.Expressions.{Expr};
 ghost use Rattle.logic.specs.Pieces.{split as conjunctsOf, projected};
 ghost use Rattle.conjuncts.specs.Conjuncts.{bounds, Coded};
@@ -55,27 +55,12 @@ pub fn place_at(row: &[u16], i: usize) -> usize
     wide(row[i])
 }
 
-// Whether s stands among the first n states of the row.
-fn stands_in(row: &[u64], n: usize, s: u64) -> bool
-    requires { ⌜ n ≤ length (now row) ⌝ }
-    ensures { λ r. ⌜ r ≡ stands s (take n (now (row .entry))) ⌝ }
-{
-    let mut i = 0;
-    while i < n {
-        if row[i] == s {
-            return true;
-        }
-        i += 1;
-    }
-    false
-}
-
 // A state behind the first n, where it does not stand among them, and how many there are then.
 fn add_state(row: &mut [u64], n: usize, s: u64) -> usize
     requires { ⌜ n < length (now row) ⌝ }
     ensures { λ r. ⌜ (r ≤ n + 1) × (length (now (row .exit)) ≡ length (now (row .entry))) × ((xs : List ℕ) → take n (now (row .entry)) ≡ firsts xs → take r (now (row .exit)) ≡ firsts (xs ++ s ∷ [])) ⌝ }
 {
-    if stands_in(row, n, s) {
+    if decks::stands_in(row, n, s) {
         return n;
     }
     decks::put_state(row, n, s);

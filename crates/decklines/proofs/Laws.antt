@@ -20,7 +20,7 @@ use Rattle.decks.specs.declared.Answer.the-variants.{Fine, BadFrame, Outside, T
 use Rattle.decks.specs.Answers.{Outcome, Got, Refused, refuse, afterwards}
 use Rattle.decks.proofs.Outcomes.{refuse-got, afterwards-got}
 use Rattle.decks.proofs.Complete.{left-more}
-use Rattle.decks.proofs.Stored.{length-lefts, length-ends, length-codes, lefts-more, ends-more, codes-more}
+use Rattle.decks.proofs.Stored.{total-more, equations-more}
 use Rattle.logic.proofs.Rights.{total-append}
 use Rattle.decks.specs.Stored.{leftsOf, endsOf, codes, HoldsEquations}
 use Rattle.frames.specs.Hex.{number}
@@ -46,31 +46,6 @@ went h = record { fine = true; answer = Fine; held = h }
 pub nothing-held : held 0 0 0 0 0 0 0 0 ≡ heldOf begun
 unfolding totalNodes lastLeft leftSet
 nothing-held = refl
-
--- ---- a state among the first of a row
-
-module _ (states : List ℕ) (count s i x : ℕ) where
-  abbrev pub StandsSofar : Type 0
-  StandsSofar = stands s (take count states) ≡ stands s (drop i (take count states))
-
-  at-place : count ≤ length states → i < count → drop i (take count states) ≡ getD states i 0 ∷ drop (i + 1) (take count states)
-  at-place h k =
-      drop-cons (take count states) i 0 (omega (arith, length-take-le count states h))
-      ∙ ap (λ (y : ℕ). y ∷ drop (suc i) (take count states)) (getD-take count states i 0 k)
-      ∙ ap (λ (y : ℕ). getD states i 0 ∷ drop y (take count states)) (sym (add-one i))
-
-  pub stands-met : count ≤ length states → i < count → StandsSofar → x ≡ getD states i 0 → s ≡ x → true ≡ stands s (take count states)
-  unfolding stands
-  stands-met h k e p q = sym (e ∙ ap (stands s) (at-place h k) ∙ simp (eq-eqb s (getD states i 0) (q ∙ p), stands))
-
-  pub stands-on : count ≤ length states → i < count → StandsSofar → x ≡ getD states i 0 → (s ≡ x → ⊥) → stands s (take count states) ≡ stands s (drop (i + 1) (take count states))
-  unfolding stands
-  stands-on h k e p q = e ∙ ap (stands s) (at-place h k) ∙ simp (ne-eqb s (getD states i 0) (λ y. q (y ∙ sym p)), stands)
-
-module _ (states : List ℕ) (count s i : ℕ) where
-  pub stands-done : count ≤ length states → count ≤ i → stands s (take count states) ≡ stands s (drop i (take count states)) → false ≡ stands s (take count states)
-  unfolding stands
-  stands-done h k e = sym (e ∙ ap (stands s) (drop-of-length-le (take count states) {i = i} (omega (arith, length-take-le count states h))))
 
 -- ---- 01
 
@@ -269,10 +244,6 @@ module _ (cs : List ℕ) (n : ℕ) (h : Held) (e : ExprRead) (s : Sofar) where
 -- ---- one equation more
 
 module _ (q : Equation) where
-  total-more : (qs : List Equation) → totalNodes (qs ++ (q ∷ [])) ≡ totalNodes qs + nodes (q .right)
-  unfolding totalNodes
-  total-more qs = omega (arith, total-append qs (q ∷ []))
-
   last-more : (qs : List Equation) → lastLeft (qs ++ (q ∷ [])) ≡ q .left
   unfolding lastLeft
   last-more [] = refl
@@ -440,32 +411,6 @@ equation-got n cs d t q =
     let w = afterwards-got (wholeExpr n (drop 2 cs)) f t q2 in
     (w .0, w .1, with-got n d (record { left = kindOf cs; right = w .0 }) t (w .2))
 
--- The arrays with one equation more.
-equations-more : (qs : List Equation) (q : Equation) (lefts ends nodes′ : List ℕ) → length qs < 256 → HoldsEquations qs lefts ends nodes′ (length qs)
-    → HoldsEquations (qs ++ (q ∷ [])) (set lefts (length qs) (q .left)) (set ends (length qs) (totalNodes qs + nodes (q .right))) (splice (totalNodes qs) (code (q .right)) nodes′) (length (qs ++ (q ∷ [])))
-equations-more qs q lefts ends nodes′ k h =
-    record {
-      lefts-are =
-          ap (λ (l : List ℕ). set l (length qs) (q .left)) (h .lefts-are)
-          ∙ ap (λ (i : ℕ). set (padded 256 (leftsOf qs)) i (q .left)) (sym (length-lefts qs))
-          ∙ padded-snoc 256 (leftsOf qs) (q .left) (omega (arith, k, length-lefts qs))
-          ∙ ap (padded 256) (sym (lefts-more q qs));
-      ends-are =
-          ap (λ (l : List ℕ). set l (length qs) (totalNodes qs + nodes (q .right))) (h .ends-are)
-          ∙ ap (λ (i : ℕ). set (padded 256 (endsOf 0 qs)) i (totalNodes qs + nodes (q .right))) (sym (length-ends 0 qs))
-          ∙ padded-snoc 256 (endsOf 0 qs) (totalNodes qs + nodes (q .right)) (omega (arith, k, length-ends 0 qs))
-          ∙ ap (padded 256) (ap (λ (i : ℕ). endsOf 0 qs ++ (i ∷ [])) from-zero ∙ sym (ends-more q 0 qs));
-      nodes-are =
-          ap (splice (totalNodes qs) (code (q .right))) (h .nodes-are)
-          ∙ ap (λ (i : ℕ). splice i (code (q .right)) (padded 2048 (codes qs))) (sym (length-codes qs))
-          ∙ padded-append 2048 (codes qs) (code (q .right))
-          ∙ ap (padded 2048) (sym (codes-more q qs));
-      count-is = refl;
-    }
-  where
-    from-zero : totalNodes qs + nodes (q .right) ≡ 0 + totalNodes qs + nodes (q .right)
-    from-zero = omega arith
-
 module _ (line : List ℕ) (n : ℕ) (h : Held) (r : LineRead) (s : Sofar) where
   -- What the judge of 03 promises.
   abbrev pub Judged : Type 0
@@ -493,7 +438,7 @@ module _ (line : List ℕ) (n : ℕ) (h : Held) (r : LineRead) (s : Sofar) where
           let last : r .held .last ≡ x .left = ap (λ (y : LineRead). y .held .last) e ∙ ap lastLeft (w .2) ∙ last-more x qs in
           let used : r .held .used ≡ totalNodes qs + nodes (w .0) = ap (λ (y : LineRead). y .held .used) e ∙ ap totalNodes (w .2) ∙ total-more x qs in
           let own : r .held .used - h .used ≡ nodes (w .0) = omega (arith, used, before) in
-          let more = equations-more qs x lefts ends nodes′ (omega (arith, k, count)) a in
+          let more = equations-more qs x lefts ends nodes′ (length qs) (omega (arith, k, count)) a in
           let pl : lefts″ ≡ set lefts (length qs) (x .left) = p ∙ ap (λ (y : ℕ). set lefts y (r .held .last)) count ∙ ap (set lefts (length qs)) last in
           let pe : ends″ ≡ set ends (length qs) (totalNodes qs + nodes (w .0)) = q ∙ ap (λ (y : ℕ). set ends y (r .held .used)) count ∙ ap (set ends (length qs)) used in
           let pn : nodes″ ≡ splice (totalNodes qs) (code (w .0)) nodes′ = m ∙ ap (λ (y : ℕ). splice y (nodesOf (r .held .used - h .used) (drop 4 line)) nodes′) before ∙ ap (λ (y : List ℕ). splice (totalNodes qs) y nodes′) (ap (λ (y : ℕ). nodesOf y (drop 4 line)) own ∙ filled n (drop 4 line) (w .0) fill) in

@@ -89,21 +89,6 @@ pub fn bad(n: u64) -> LineRead
     stopped(decks::Answer::BadFrame(DECK_TEXT, n))
 }
 
-// Whether a state is among the first of a row of states.
-fn stands_in(states: &[u64], count: usize, s: u64) -> bool
-    requires { ⌜ count ≤ length (now states) ⌝ }
-    ensures { λ r. ⌜ r ≡ stands s (take count (now (states .entry))) ⌝ }
-{
-    let mut i = 0;
-    while i < count {
-        if s == decks::state_at(states, i) {
-            return true;
-        }
-        i += 1;
-    }
-    false
-}
-
 // An expression that fills the rest of a line: its nodes, the variables written, and whether one of `X F G U W` is there; or a refusal.
 pub struct ExprRead {
     pub fine: bool,
@@ -214,7 +199,7 @@ pub fn init_line(line: &[u8], n: u64, h: Held, inits: &mut [u64]) -> LineRead
     let lines::Number::Good(x) = lines::number_at(line, 2, 8) else {
         return bad(n);
     };
-    if stands_in(inits, h.initials, x) {
+    if decks::stands_in(inits, h.initials, x) {
         return bad(n);
     }
     if !sets::subset(x, h.vars) {

@@ -8,7 +8,7 @@ use native.Mathlib.Decide.{ℕ-discrete}
 use borrow.Author.Tests.{eq-eqb, ne-eqb}
 use lib.Count.{trailingZeros}
 use Rattle.lists.specs.Lists.{Some}
-use Rattle.sets.specs.Sets.{_∋_, only, union, without, Lowest}
+use Rattle.sets.specs.Sets.{_∋_, only, union, without, Lowest, lowestOf}
 use Rattle.sets.proofs.Laws.{bit-zero, union-assoc, union-nothing, bit-union, bit-or-zero, bit-only, only-bit, union-left, union-right, member-dec, subset-without, without-subset, without-left, without-out, without-in, without-lt, trailing-lowest, lowest-unique}
 use Rattle.logic.specs.Decks.{Equation, Deck, base}
 use Rattle.decks.specs.declared.Answer.{Answer}
@@ -49,23 +49,25 @@ left-more q (x ∷ xs) = ap (union (only (x .left))) (left-more q xs) ∙ union-
 abbrev pub lacking : Deck → ℕ
 lacking d = without (d .vars) (leftSet (d .equations))
 
-complete-none : (d : Deck) → lacking d ≡ 0 → complete d ≡ Got d
-unfolding complete
-complete-none d e = simp (eq-eqb (lacking d) 0 e, complete)
+-- They tell whether the deck is complete.
+module _ (d : Deck) (missing : ℕ) (e : missing ≡ lacking d) where
+  pub complete-none : missing ≡ 0 → complete d ≡ Got d
+  unfolding complete
+  complete-none h = simp (eq-eqb (lacking d) 0 (sym e ∙ h), complete)
 
-complete-some : (d : Deck) → (lacking d ≡ 0 → ⊥) → complete d ≡ Refused (NoEquation (trailingZeros (base .variables) (lacking d)))
-unfolding complete
-complete-some d n = simp (ne-eqb (lacking d) 0 n, complete)
+  pub complete-some : (missing ≡ 0 → ⊥) → complete d ≡ Refused (NoEquation (lowestOf missing))
+  unfolding complete
+  complete-some h = rw e (simp (ne-eqb (lacking d) 0 (λ z. h (e ∙ z)), complete))
 
 pub complete-all : (d : Deck) → AllHave d → complete d ≡ Got d
-complete-all d f = complete-none d (subset-without (d .vars) (leftSet (d .equations)) (λ v m. left-set-member (d .equations) v (f v m)))
+complete-all d f = complete-none d (lacking d) refl (subset-without (d .vars) (leftSet (d .equations)) (λ v m. left-set-member (d .equations) v (f v m)))
 
 pub all-complete : (d e : Deck) → complete d ≡ Got e → (d ≡ e) × AllHave d
 all-complete d e h =
     by-cases
     (ℕ-discrete (lacking d) 0)
-    (λ z. (let g = complete-none d z in cc, λ v m. member-left-set (d .equations) v (without-subset (d .vars) (leftSet (d .equations)) z v m)))
-    (λ n. refused-got (sym (complete-some d n) ∙ h))
+    (λ z. (let g = complete-none d (lacking d) refl z in cc, λ v m. member-left-set (d .equations) v (without-subset (d .vars) (leftSet (d .equations)) z v m)))
+    (λ n. refused-got (sym (complete-some d (lacking d) refl n) ∙ h))
 
 -- v is the lowest variable without an equation.
 abbrev pub LowestWithout : Deck → ℕ → Type 0
@@ -93,10 +95,10 @@ pub refused-lowest : (d : Deck) (a : Answer) → d .vars < 2 ^ base .variables �
 refused-lowest d a h e =
     by-cases
     (ℕ-discrete (lacking d) 0)
-    (λ z. refused-got (sym e ∙ complete-none d z))
+    (λ z. refused-got (sym e ∙ complete-none d (lacking d) refl z))
     (λ n. (
       trailingZeros (base .variables) (lacking d),
-      let g = complete-some d n in cc,
+      let g = complete-some d (lacking d) refl n in cc,
       lowest-lacking
           d
           (trailingZeros (base .variables) (lacking d))

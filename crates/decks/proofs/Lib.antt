@@ -1,3 +1,5 @@
 pub mod Outcomes
 pub mod Complete
 pub mod Stored
+pub mod Rows
+pub mod Levels

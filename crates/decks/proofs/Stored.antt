@@ -5,10 +5,10 @@ use mathlib.Core.List.{List, [], _∷_, _++_, append-assoc, append-nil}
 use Prim.Native.Nat.{ℕ, zero, suc, _+_, _-_, _<_, _≤_}
 use native.Mathlib.Omega.{arith}
 use native.Mathlib.Nat.{zero-add}
-use lib.ListN.{length, take, drop, getD, replicate, length-append, List·getD-map}
+use lib.ListN.{length, take, drop, getD, set, replicate, length-append, List·getD-map}
 use lib.Seq.{drop-cons}
-use Rattle.lists.specs.Lists.{Each, padded}
-use Rattle.lists.proofs.Laws.{each-getD, getD-padded}
+use Rattle.lists.specs.Lists.{Each, padded, splice}
+use Rattle.lists.proofs.Laws.{each-getD, getD-padded, padded-snoc, padded-append}
 use Rattle.logic.specs.Expressions.{Const, nodes, code}
 use Rattle.logic.specs.Decks.{Equation, base, totalNodes}
 use Rattle.logic.proofs.Codes.{length-code}
@@ -97,6 +97,11 @@ module _ (qs : List Equation) (lefts ends cs : List ℕ) (n i : ℕ) (held : Hol
 -- ---- one equation more
 
 module _ (q : Equation) where
+  pub total-more : (qs : List Equation) → totalNodes (qs ++ (q ∷ [])) ≡ totalNodes qs + nodes (q .right)
+  unfolding totalNodes
+  total-more [] = omega arith
+  total-more (x ∷ xs) = omega (arith, total-more xs)
+
   pub lefts-more : (qs : List Equation) → leftsOf (qs ++ (q ∷ [])) ≡ leftsOf qs ++ (q .left ∷ [])
   lefts-more [] = refl
   lefts-more (x ∷ xs) = ap (λ (l : List ℕ). x .left ∷ l) (lefts-more xs)
@@ -112,3 +117,29 @@ module _ (q : Equation) where
   unfolding codes
   codes-more [] = append-nil (code (q .right))
   codes-more (x ∷ xs) = ap (λ (l : List ℕ). code (x .right) ++ l) (codes-more xs) ∙ sym (append-assoc (code (x .right)) (codes xs) (code (q .right)))
+
+-- The arrays with one equation more.
+pub equations-more : (qs : List Equation) (q : Equation) (lefts ends nodes′ : List ℕ) (n : ℕ) → length qs < 256 → HoldsEquations qs lefts ends nodes′ n
+    → HoldsEquations (qs ++ (q ∷ [])) (set lefts (length qs) (q .left)) (set ends (length qs) (totalNodes qs + nodes (q .right))) (splice (totalNodes qs) (code (q .right)) nodes′) (length (qs ++ (q ∷ [])))
+equations-more qs q lefts ends nodes′ n k h =
+    record {
+      lefts-are =
+          ap (λ (l : List ℕ). set l (length qs) (q .left)) (h .lefts-are)
+          ∙ ap (λ (i : ℕ). set (padded 256 (leftsOf qs)) i (q .left)) (sym (length-lefts qs))
+          ∙ padded-snoc 256 (leftsOf qs) (q .left) (omega (arith, k, length-lefts qs))
+          ∙ ap (padded 256) (sym (lefts-more q qs));
+      ends-are =
+          ap (λ (l : List ℕ). set l (length qs) (totalNodes qs + nodes (q .right))) (h .ends-are)
+          ∙ ap (λ (i : ℕ). set (padded 256 (endsOf 0 qs)) i (totalNodes qs + nodes (q .right))) (sym (length-ends 0 qs))
+          ∙ padded-snoc 256 (endsOf 0 qs) (totalNodes qs + nodes (q .right)) (omega (arith, k, length-ends 0 qs))
+          ∙ ap (padded 256) (ap (λ (i : ℕ). endsOf 0 qs ++ (i ∷ [])) from-zero ∙ sym (ends-more q 0 qs));
+      nodes-are =
+          ap (splice (totalNodes qs) (code (q .right))) (h .nodes-are)
+          ∙ ap (λ (i : ℕ). splice i (code (q .right)) (padded 2048 (codes qs))) (sym (length-codes qs))
+          ∙ padded-append 2048 (codes qs) (code (q .right))
+          ∙ ap (padded 2048) (sym (codes-more q qs));
+      count-is = refl;
+    }
+  where
+    from-zero : totalNodes qs + nodes (q .right) ≡ 0 + totalNodes qs + nodes (q .right)
+    from-zero = omega arith

@@ -2,9 +2,10 @@
 ghost use mathlib.Core.Path.{_≡_};
 ghost use Prim.Native.Nat.{ℕ, _+_, _*_, _<_, _≤_};
 ghost use lib.ListN.{length, take, drop, getD, set, replicate};
+ghost use Rattle.lists.specs.Lists.{stands};
 ghost use Rattle.logic.specs.Decks.{Limits, base};
-ghost use Rattle.decks.specs.Answers.{replyOf};
-ghost use Rattle.decks.specs.Stored.{blank, sizesOf};
+ghost use Rattle.decks.specs.Answers.{Refused, replyOf};
+ghost use Rattle.decks.specs.Stored.{blank, deckRead, sizesOf};
 
 // Document 01's sizes.
 pub const TEXT: usize = 64800;
@@ -128,6 +129,21 @@ pub fn put_state(states: &mut [u64], i: usize, s: u64)
     ensures { λ _. ⌜ now (states .exit) ≡ set (now (states .entry)) i s ⌝ }
 {
     states[i] = s;
+}
+
+// Whether a state is among the first of a row of states.
+pub fn stands_in(states: &[u64], count: usize, s: u64) -> bool
+    requires { ⌜ count ≤ length (now states) ⌝ }
+    ensures { λ r. ⌜ r ≡ stands s (take count (now (states .entry))) ⌝ }
+{
+    let mut i = 0;
+    while i < count {
+        if s == state_at(states, i) {
+            return true;
+        }
+        i += 1;
+    }
+    false
 }
 
 // The paper's number, text and place of an answer.
@@ -257,5 +273,15 @@ pub fn no_deck() -> Deck
         nodes: [0; EQUATION_NODES],
         property: [0; PROPERTY_NODES],
         size: 0,
+    }
+}
+
+// A refusal, and the deck of zeros beside it.
+pub fn refused(a: Answer) -> DeckRead
+    ensures { λ r. ⌜ r ≡ deckRead (Refused a) ⌝ }
+{
+    DeckRead {
+        answer: a,
+        deck: no_deck(),
     }
 }

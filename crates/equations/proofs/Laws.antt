@@ -20,6 +20,7 @@ use Rattle.logic.specs.Decks.{Equation, base}
 use Rattle.logic.specs.Pieces.{equationsOf}
 use Rattle.logic.proofs.Codes.{length-code, nodes-some}
 use Rattle.decks.specs.Stored.{HoldsEquations, leftsOf, endsOf, codes}
+use Rattle.decks.proofs.Stored.{length-lefts, length-ends}
 use Rattle.frames.specs.Hex.{pair}
 use Rattle.frames.specs.Written.{equationKind, nodePairs, frame, equationFrames}
 use Rattle.frames.proofs.ExprLaws.{length-node-pairs}
@@ -171,15 +172,6 @@ module _ (lefts ends nodes : List ℕ) (n i from : ℕ) where
   pub rest-none : (rest : List Equation) → Rest rest lefts ends nodes n i from → n ≤ i → rest ≡ []
   rest-none [] r h = refl
   rest-none (q ∷ qs) r h = absurd (omega (arith, r .count-from))
-
-length-lefts : (qs : List Equation) → length (leftsOf qs) ≡ length qs
-length-lefts [] = refl
-length-lefts (q ∷ qs) = ap suc (length-lefts qs)
-
-length-ends : (k : ℕ) (qs : List Equation) → length (endsOf k qs) ≡ length qs
-unfolding endsOf
-length-ends k [] = refl
-length-ends k (q ∷ qs) = ap suc (length-ends _ qs)
 
 module _ (qs : List Equation) (lefts ends nodes : List ℕ) (n i : ℕ) (h : HoldsEquations qs lefts ends nodes n) (k : i < n) where
   pub left-there : i < length lefts

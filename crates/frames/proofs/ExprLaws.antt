@@ -17,6 +17,7 @@ use Rattle.frames.specs.Hex.{pair, byteOf}
 use Rattle.frames.specs.Written.{codeByte, nodePairs}
 use Rattle.frames.specs.Read.{Sign, Leaf, Before, Between, NoSign, signs, signOf, levelled, begins, readExpr}
 use Rattle.decks.specs.Readings.{Reading, Whole, Wrong, Deep, onward}
+use Rattle.decks.proofs.Levels.{Same, same-onward, Shallow, shallow-same}
 use Rattle.frames.proofs.HexLaws.{byte-pair, pair-byte, hex-from-zero}
 
 -- ---- the code of a sign
@@ -217,17 +218,6 @@ below-written w (Two o a b) n = union-lt w (written a) (written b) (below-writte
 
 -- ---- one level more
 
--- The second reading is the first, where that did not meet its last level.
-abbrev Same : Reading → Reading → Type 0
-Same (Whole e rs) r = r ≡ Whole e rs
-Same (Wrong rs) r = r ≡ Wrong rs
-Same (Deep rs) r = Unit
-
-same-onward : (r t : Reading) (f g : Expr → List ℕ → Reading) → Same r t → ((e : Expr) (rs : List ℕ) → Same (f e rs) (g e rs)) → Same (onward r f) (onward t g)
-same-onward (Whole e rs) t f g s k = rw s (k e rs)
-same-onward (Wrong rs) t f g s k = rw s
-same-onward (Deep rs) t f g s k = tt
-
 same-levelled : (operand : List ℕ → Reading) (all cs : List ℕ) (s : Sign) → Same (levelled all s cs) (begins operand all s cs)
 same-levelled operand all cs (Leaf e) = tt
 same-levelled operand all cs (Before o) = tt
@@ -249,17 +239,6 @@ same-levels (suc left) [] = refl
 same-levels (suc left) (h ∷ []) = refl
 same-levels (suc left) (h ∷ l ∷ cs) = same-begins (readExpr left) (readExpr (suc left)) (h ∷ l ∷ cs) cs (signOf (byteOf h l)) (same-levels left)
 
--- The reading did not meet a code below its last level.
-abbrev pub Shallow : Reading → Type 0
-Shallow (Whole e rs) = Unit
-Shallow (Wrong rs) = Unit
-Shallow (Deep rs) = ⊥
-
 -- One level more changes neither a result nor a fault and its place.
 pub more-levels : (left : ℕ) (cs : List ℕ) → Shallow (readExpr left cs) → readExpr (suc left) cs ≡ readExpr left cs
-more-levels left cs = go (readExpr left cs) (same-levels left cs)
-  where
-    go : (r : Reading) → Same r (readExpr (suc left) cs) → Shallow r → readExpr (suc left) cs ≡ r
-    go (Whole e rs) s h = s
-    go (Wrong rs) s h = s
-    go (Deep rs) s h = absurd h
+more-levels left cs = shallow-same (readExpr left cs) (readExpr (suc left) cs) (same-levels left cs)

@@ -15,7 +15,7 @@ use Rattle.sets.specs.Sets.{bit, _∋_, _⊆_, only, union, meet}
 use Rattle.sets.proofs.Laws.{bit-lt, bit-zero, bit-only, only-bit, union-left, union-right, union-cases, meet-subset, subset-meet}
 use Rattle.logic.specs.Expressions.{Expr, Const, Var, One, Two, Not, Next, Future, Always, And, Or, Until, Weak, value}
 use Rattle.logic.specs.Decks.{Equation, Deck, Limits}
-use Rattle.logic.specs.Meaning.{Holds, Step, RunOf, Loops, Breaks, Claim, Sized, stateOf, follower, position, claimRun}
+use Rattle.logic.specs.Meaning.{Holds, Step, RunOf, Loops, Breaks, Claim, Sized, stateOf, follower, ClaimStep, position, claimRun}
 use Rattle.logic.specs.Verdicts.{Verdict, Breaking, NotInitial, NoStep, Holding, unrolled, truth, taken, allowed, stepsFrom, verdict}
 use Rattle.logic.proofs.Operators.{digit-not, digit-and, digit-or, future-is, weak-never}
 use Rattle.logic.proofs.Truth.{no-later}
@@ -249,10 +249,6 @@ step-is d s t =
     )
 
 -- ---- the verdict
-
--- Step i of the claim, from state i to the state that follows it, is one of the deck.
-abbrev pub ClaimStep : Deck → Claim → ℕ → Type 0
-ClaimStep d m i = Step d (stateOf m i) (stateOf m (follower m i))
 
 -- What each verdict says.
 abbrev Meant : Deck → Claim → Verdict → Type 0

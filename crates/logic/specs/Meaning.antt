@@ -74,6 +74,10 @@ stateOf m i = getD (m .states) i 0
 unfoldable pub follower : Claim → ℕ → ℕ
 follower m i = elim (ltb (suc i) (m .p + m .c)) [ true ↦ suc i | false ↦ m .p ]
 
+-- Step i of the claim, from state i to the one that follows it, is a step of the deck.
+abbrev pub ClaimStep : Deck → Claim → ℕ → Type 0
+ClaimStep d m i = Step d (stateOf m i) (stateOf m (follower m i))
+
 -- The number of the claim's state at place k of its run.
 unfoldable pub position : Claim → ℕ → ℕ
 position m zero = 0

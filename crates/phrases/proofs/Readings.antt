@@ -11,63 +11,9 @@ use Rattle.logic.specs.Expressions.{Expr, Two, Op2, nodes, levels, Below}
 use Rattle.decks.specs.Readings.{Reading, Whole, Wrong, Deep, onward}
 use Rattle.cards.specs.Card.{isDigit}
 use Rattle.cards.specs.Grammar.{Sign, Constant, Variable, Before, Bracket, NoSign, Counted, Number, NoNumber, digitValue, secondDigit, readNumber, signOf, jointOf, past, pastJoint, variable, levelled, begins, readExpr}
+use Rattle.decks.proofs.Levels.{Same}
+use Rattle.cards.proofs.GrammarLaws.{same-levels}
 use Rattle.grammar.proofs.Numbers.{digit-bounds}
-
--- ---- one level more
-
--- S says what R says, unless R met an expression too deep.
-abbrev pub Stays : Reading → Reading → Type 0
-Stays (Whole e rest) S = S ≡ Whole e rest
-Stays (Wrong rest) S = S ≡ Wrong rest
-Stays (Deep rest) S = Unit
-
-stays-same : (R : Reading) → Stays R R
-stays-same (Whole e rest) = refl
-stays-same (Wrong rest) = refl
-stays-same (Deep rest) = tt
-
-stays-onward : (R S : Reading) (f g : Expr → List ℕ → Reading) → Stays R S → ((e : Expr) (rest : List ℕ) → Stays (f e rest) (g e rest)) → Stays (onward R f) (onward S g)
-stays-onward (Whole e rest) S f g p h = subst (λ (X : Reading). Stays (f e rest) (onward X g)) (sym p) (h e rest)
-stays-onward (Wrong rest) S f g p h = ap (λ (X : Reading). onward X g) p
-stays-onward (Deep rest) S f g p h = tt
-
-stays-joint : (cs : List ℕ) (f g : Op2 → List ℕ → Reading) → ((o : Op2) (rest : List ℕ) → Stays (f o rest) (g o rest)) → Stays (pastJoint cs f) (pastJoint cs g)
-unfolding pastJoint
-stays-joint [] f g h = refl
-stays-joint (x ∷ cs) f g h = go (jointOf x)
-  where
-    go : (j : Option Op2) → Stays (elim j [ some o ↦ f o cs | none ↦ Wrong (x ∷ cs) ]) (elim j [ some o ↦ g o cs | none ↦ Wrong (x ∷ cs) ])
-    go (some o) = h o cs
-    go none = refl
-
-stays-begins : (f g : List ℕ → Reading) → ((cs : List ℕ) → Stays (f cs) (g cs)) → (all : List ℕ) (s : Sign) (cs : List ℕ) → Stays (begins f all s cs) (begins g all s cs)
-stays-begins f g h all (Constant b) cs = refl
-stays-begins f g h all Variable cs = stays-same (variable (readNumber cs))
-stays-begins f g h all (Before o) cs = stays-onward (f cs) (g cs) _ _ (h cs) (λ a rest. refl)
-stays-begins f g h all Bracket cs =
-    stays-onward
-    (f cs)
-    (g cs)
-    _
-    _
-    (h cs)
-    (λ a rest. stays-joint rest _ _ (λ o rest. stays-onward (f rest) (g rest) _ _ (h rest) (λ b rest. stays-same (past 41 rest (λ rest. Whole (Two o a b) rest)))))
-stays-begins f g h all NoSign cs = refl
-
-stays-level : (f : List ℕ → Reading) (all : List ℕ) (s : Sign) (cs : List ℕ) → Stays (levelled all s) (begins f all s cs)
-stays-level f all (Constant b) cs = tt
-stays-level f all Variable cs = tt
-stays-level f all (Before o) cs = tt
-stays-level f all Bracket cs = tt
-stays-level f all NoSign cs = refl
-
--- One level more changes neither a result nor a wrong character and its place.
-pub more-levels : (l : ℕ) (cs : List ℕ) → Stays (readExpr l cs) (readExpr (suc l) cs)
-unfolding readExpr
-more-levels zero [] = refl
-more-levels zero (c ∷ cs) = stays-level (readExpr 0) (c ∷ cs) (signOf c) cs
-more-levels (suc l) [] = refl
-more-levels (suc l) (c ∷ cs) = stays-begins (readExpr l) (readExpr (suc l)) (more-levels l) (c ∷ cs) (signOf c) cs
 
 -- ---- bounds
 
@@ -202,8 +148,8 @@ module _ (l : ℕ) (cs : List ℕ) (e : Expr) (rest : List ℕ) (p : readExpr l 
   variables-below = bounds .2
 
   pub whole-more-levels : readExpr (suc l) cs ≡ Whole e rest
-  whole-more-levels = subst (λ (R : Reading). Stays R (readExpr (suc l) cs)) p (more-levels l cs)
+  whole-more-levels = subst (λ (R : Reading). Same R (readExpr (suc l) cs)) p (same-levels l cs)
 
 module _ (l : ℕ) (cs rest : List ℕ) (p : readExpr l cs ≡ Wrong rest) where
   pub wrong-more-levels : readExpr (suc l) cs ≡ Wrong rest
-  wrong-more-levels = subst (λ (R : Reading). Stays R (readExpr (suc l) cs)) p (more-levels l cs)
+  wrong-more-levels = subst (λ (R : Reading). Same R (readExpr (suc l) cs)) p (same-levels l cs)

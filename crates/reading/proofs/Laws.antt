@@ -21,6 +21,7 @@ use Rattle.decks.specs.declared.Deck.{Deck as Stored}
 use Rattle.decks.specs.Answers.{Outcome, Got, Refused, refuse, afterwards}
 use Rattle.decks.specs.Stored.{leftsOf, endsOf, codes, HoldsEquations, blank, deckRead}
 use Rattle.decks.proofs.Stored.{length-codes}
+use Rattle.decks.proofs.Complete.{complete-none, complete-some}
 use Rattle.frames.specs.Hex.{byteOf}
 use Rattle.frames.specs.Read.{Due, DueSet, DueInit, DueAny, DueEquation, DueCount, DueNone, Sofar, begun, kindOf, wholeNumber, wholeExpr, setLine, initLine, lastLeft, withEquation, equationLine, propertyLine, countLine, permits, frameLine, deckLine, deckEnd, readDeck}
 use Rattle.decks.specs.Readings.{walk, leftSet, complete}
@@ -365,9 +366,6 @@ pub kind-within : (line : List ℕ) (k : ℕ) → k ≡ kindOf line → k ≡ 4 
 kind-within line k e h = pair-inside line 0 k e (omega arith)
 
 -- A refusal with the deck of zeros beside it.
-pub refused-blank : (a : Answer) (d : Stored) → d ≡ blank → record { answer = a; deck = d } ≡ deckRead (Refused a)
-refused-blank a d e = ap (λ (x : Stored). record { answer = a; deck = x }) e
-
 -- What is returned from what is held and the arrays.
 abbrev found : Held → List ℕ → List ℕ → List ℕ → List ℕ → List ℕ → DeckRead
 found h inits lefts ends nodes property = record { answer = Fine; deck = record { vars = h .vars; inits = inits; initials = h .initials; lefts = lefts; ends = ends; equations = h .equations; nodes = nodes; property = property; size = h .size } }
@@ -436,17 +434,6 @@ whole-end DueAny d h = absurd (omega (arith, h))
 whole-end DueEquation d h = absurd (omega (arith, h))
 whole-end DueCount d h = absurd (omega (arith, h))
 whole-end DueNone d h = (refl, refl)
-
-missing-some : (d : Deck) (m : ℕ) → m ≡ without (d .vars) (leftSet (d .equations)) → (m ≡ 0 → ⊥) → complete d ≡ Refused (NoEquation (lowestOf m))
-unfolding complete
-missing-some d m e h =
-    ap (λ (x : ℕ). refuse (not (eqb x 0)) (NoEquation (lowestOf x)) (Got d)) (sym e)
-    ∙ ap (λ (x : Bool). refuse (not x) (NoEquation (lowestOf m)) (Got d)) (ne-eqb m 0 h)
-
-missing-none : (d : Deck) (m : ℕ) → m ≡ without (d .vars) (leftSet (d .equations)) → m ≡ 0 → complete d ≡ Got d
-unfolding complete
-missing-none d m e h =
-    ap (λ (x : ℕ). refuse (not (eqb x 0)) (NoEquation (lowestOf x)) (Got d)) (sym e ∙ h)
 
 module _ (text : List ℕ) where
   pub too-long : (r : DeckRead) → 64800 < length text → r ≡ deckRead (Refused (TooLong 1)) → r ≡ deckRead (readDeck text)
@@ -547,7 +534,7 @@ module _ (text : List ℕ) where
       whole d h i = let w = whole-end (d .sofar .due) (d .sofar .deck) (sym (due-is d) ∙ i) in (w .0, behind d h ∙ w .1)
 
       pub reached-missing : (v : ℕ) (r : DeckRead) → Reached text inits lefts ends nodes′ property held at n → length text ≤ at → held .due ≡ 5 → m ≡ without (held .vars) (held .covered) → (m ≡ 0 → ⊥) → v ≡ lowestOf m → r ≡ deckRead (Refused (NoEquation v)) → r ≡ deckRead (readDeck text)
-      reached-missing v r d h i e k l q = q ∙ ap (λ (x : ℕ). deckRead (Refused (NoEquation x))) l ∙ ap deckRead (sym (whole d h i .1 ∙ missing-some (d .sofar .deck) m (uncovered d e) k))
+      reached-missing v r d h i e k l q = q ∙ ap (λ (x : ℕ). deckRead (Refused (NoEquation x))) l ∙ ap deckRead (sym (whole d h i .1 ∙ complete-some (d .sofar .deck) m (uncovered d e) k))
 
       pub reached-done : Reached text inits lefts ends nodes′ property held at n → length text ≤ at → held .due ≡ 5 → m ≡ without (held .vars) (held .covered) → m ≡ 0 → record { answer = Fine; deck = record { vars = held .vars; inits = inits; initials = held .initials; lefts = lefts; ends = ends; equations = held .equations; nodes = nodes′; property = property; size = held .size } } ≡ deckRead (readDeck text)
       reached-done d h i e k =
@@ -563,4 +550,4 @@ module _ (text : List ℕ) where
           ∙ ap (λ (x : List ℕ). found (heldOf (record { due = DueNone; deck = D })) (padded 64 (D .inits)) (padded 256 (leftsOf (D .equations))) x nodes′ property) (q .ends-are)
           ∙ ap (λ (x : List ℕ). found (heldOf (record { due = DueNone; deck = D })) (padded 64 (D .inits)) (padded 256 (leftsOf (D .equations))) (padded 256 (endsOf 0 (D .equations))) x property) (q .nodes-are)
           ∙ ap (λ (x : List ℕ). found (heldOf (record { due = DueNone; deck = D })) (padded 64 (D .inits)) (padded 256 (leftsOf (D .equations))) (padded 256 (endsOf 0 (D .equations))) (padded 2048 (codes (D .equations))) x) p
-          ∙ ap deckRead (sym (w .1 ∙ missing-none D m (uncovered d e) k))
+          ∙ ap deckRead (sym (w .1 ∙ complete-none D m (uncovered d e) k))

@@ -117,22 +117,12 @@ fn deck_line(
     count_line(line, n, h)
 }
 
-// A refusal, and the deck of zeros beside it.
-fn refused(a: decks::Answer) -> decks::DeckRead
-    ensures { λ r. ⌜ r ≡ deckRead (Refused a) ⌝ }
-{
-    decks::DeckRead {
-        answer: a,
-        deck: decks::no_deck(),
-    }
-}
-
 // A text read as a deck.
 pub fn read_deck(text: &[u8]) -> decks::DeckRead
     ensures { λ r. ⌜ r ≡ deckRead (readDeck (now (text .entry))) ⌝ }
 {
     if text.len() > decks::TEXT {
-        return refused(decks::Answer::TooLong(DECK_TEXT));
+        return decks::refused(decks::Answer::TooLong(DECK_TEXT));
     }
     let mut inits = [0u64; decks::INITIALS * decks::WORDS];
     let mut lefts = [0u16; decks::EQUATIONS];
@@ -145,7 +135,7 @@ pub fn read_deck(text: &[u8]) -> decks::DeckRead
     while at < text.len() {
         let end = ends::line_end(text, at);
         if end == text.len() {
-            return refused(decks::Answer::BadFrame(DECK_TEXT, 0));
+            return decks::refused(decks::Answer::BadFrame(DECK_TEXT, 0));
         }
         let r = deck_line(
             &text[at..end],
@@ -159,18 +149,18 @@ pub fn read_deck(text: &[u8]) -> decks::DeckRead
         );
         if !r.fine {
             let a = r.answer;
-            return refused(a);
+            return decks::refused(a);
         }
         held = r.held;
         at = end + 1;
         n += 1;
     }
     if held.due != decklines::DUE_NONE {
-        return refused(decks::Answer::BadFrame(DECK_TEXT, 0));
+        return decks::refused(decks::Answer::BadFrame(DECK_TEXT, 0));
     }
     let missing = sets::without(held.vars, held.covered);
     if missing != 0 {
-        return refused(decks::Answer::NoEquation(sets::lowest(missing) as u64));
+        return decks::refused(decks::Answer::NoEquation(sets::lowest(missing) as u64));
     }
     decks::DeckRead {
         answer: decks::Answer::Fine,

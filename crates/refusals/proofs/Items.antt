@@ -23,7 +23,8 @@ use Rattle.cards.specs.Read.{behind, Due, DueVars, DueInit, DueAny, DueEquation
 use Rattle.decks.proofs.Outcomes.{refused-got}
 use Rattle.cards.proofs.GrammarLaws.{decimal-read, read-decimal}
 use Rattle.cards.proofs.WordLaws.{word-behind, behind-word, whole-number-spelt, whole-number-got, whole-expr-spelt, whole-expr-got, binary-read, read-binary}
-use Rattle.cards.proofs.ExactlyWhen.{TooFar, too-deep-exactly}
+use Rattle.cards.specs.Deep.{TooFar}
+use Rattle.cards.proofs.ExactlyWhen.{too-deep-exactly}
 use Rattle.refusals.specs.StatementFaults.{Item, Count, Initial, Equals, Property, Ending, EquationDue, Permits, SpellsItem, DeepIn, added}
 
 -- ---- the reader of a statement, its judgement apart

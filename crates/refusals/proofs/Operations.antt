@@ -11,9 +11,9 @@ use Rattle.lists.specs.Lists.{Each, _among_}
 use Rattle.sets.specs.Sets.{_∋_, _⊆_}
 use Rattle.sets.proofs.Laws.{subset-dec, member-lt, without-left, without-out, without-in}
 use Rattle.logic.specs.Decks.{Deck, base}
-use Rattle.logic.specs.Meaning.{Claim, Sized, RunOf, Holds, stateOf, claimRun, position}
+use Rattle.logic.specs.Meaning.{Claim, Sized, RunOf, Holds, stateOf, ClaimStep, claimRun, position}
 use Rattle.logic.specs.Verdicts.{Verdict, Breaking, NotInitial as NotInitialState, NoStep as NoSuchStep, Holding as HoldingProperty, verdict}
-use Rattle.logic.proofs.Verdict.{ClaimStep, position-is, accepted-exactly-when, refused-20-exactly-when, refused-21-exactly-when, refused-22-exactly-when}
+use Rattle.logic.proofs.Verdict.{position-is, accepted-exactly-when, refused-20-exactly-when, refused-21-exactly-when, refused-22-exactly-when}
 use Rattle.decks.specs.declared.Answer.{Answer}
 use Rattle.decks.specs.declared.Answer.the-variants.{Fine, Outside, NoStep, Holding}
 use Rattle.decks.specs.Answers.{Outcome, Got, Refused}

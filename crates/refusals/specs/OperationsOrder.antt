@@ -6,8 +6,7 @@ use lib.ListN.{length}
 use Rattle.lists.specs.Lists.{Each, _among_}
 use Rattle.sets.specs.Sets.{_∋_, _⊆_}
 use Rattle.logic.specs.Decks.{Deck, Accepted, base}
-use Rattle.logic.specs.Meaning.{Claim, Sized, Holds, stateOf, claimRun}
-use Rattle.logic.proofs.Verdict.{ClaimStep}
+use Rattle.logic.specs.Meaning.{Claim, Sized, Holds, stateOf, ClaimStep, claimRun}
 use Rattle.decks.specs.declared.Answer.{Answer}
 use Rattle.decks.specs.declared.Answer.the-variants.{Outside, NoRoom, NotInitial, NoStep, Holding}
 use Rattle.decks.specs.Answers.{Outcome, Got, Refused}

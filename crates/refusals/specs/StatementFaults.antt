@@ -12,7 +12,7 @@ use Rattle.decks.specs.declared.Answer.the-variants.{NotDue, Outside, Temporal,
 use Rattle.cards.specs.Statement.{Statement, inked}
 use Rattle.cards.specs.Typed.{Typed, initSpelt, equationSpelt, firstVars}
 use Rattle.cards.specs.Read.{Due, DueVars, DueInit, DueAny, DueEquation, DueEnd, DueNone, Sofar, begun}
-use Rattle.cards.proofs.ExactlyWhen.{TooFar}
+use Rattle.cards.specs.Deep.{TooFar}
 use Rattle.refusals.specs.Order.{Conditions, Done, Try, NoneOf}
 
 -- What a statement says: `VARS` n, `INIT` and a state, an equation, `PROP` and an expression, `END`.

@@ -3,10 +3,16 @@ use libc::STDERR_FILENO;
 use libc::STDIN_FILENO;
 use libc::STDOUT_FILENO;
 
-// The operations of a case on frames, and the code that closes the bundle.
+// The operations of a case, and the code that closes the bundle.
+const READ_CARDS: u64 = 100;
+
 const READ_FRAMES: u64 = 68;
 
+const WRITE_CARDS: u64 = 119;
+
 const WRITE_FRAMES: u64 = 87;
+
+const REDUCE_CARDS: u64 = 114;
 
 const REDUCE_FRAMES: u64 = 82;
 
@@ -30,6 +36,10 @@ fn counted(r: station::DeckReply) -> station::CountReply {
     }
 }
 
+fn read_cards(text: &[u8]) -> station::CountReply {
+    counted(station::read_cards(text))
+}
+
 fn read_frames(text: &[u8]) -> station::CountReply {
     counted(station::read_frames(text))
 }
@@ -46,6 +56,9 @@ fn check<'a>(deck: &'a [u8], claim: &'a [u8]) -> station::CountReply {
 }
 
 fn is_operation(code: u64) -> bool {
+    if code == READ_CARDS || code == WRITE_CARDS || code == REDUCE_CARDS {
+        return true;
+    }
     if code == READ_FRAMES || code == WRITE_FRAMES || code == REDUCE_FRAMES {
         return true;
     }
@@ -54,6 +67,9 @@ fn is_operation(code: u64) -> bool {
 
 // What an operation on a text without a lent buffer replies.
 fn asked<'a>(operation: u64, set: u64, deck: &'a [u8], claim: &'a [u8]) -> station::CountReply {
+    if operation == READ_CARDS {
+        return read_cards(deck);
+    }
     if operation == READ_FRAMES {
         return read_frames(deck);
     }
@@ -71,8 +87,14 @@ fn performed<'a>(
     claim: &'a [u8],
     out: &mut [u8],
 ) -> station::CountReply {
+    if operation == WRITE_CARDS {
+        return station::write_cards(deck, out);
+    }
     if operation == WRITE_FRAMES {
         return station::write_frames(deck, out);
+    }
+    if operation == REDUCE_CARDS {
+        return station::reduce_cards(deck, out);
     }
     if operation == REDUCE_FRAMES {
         return station::reduce_frames(deck, out);

@@ -9,12 +9,12 @@ use Rattle.lists.specs.Lists.{Each, Some, _among_, splice}
 use Rattle.sets.specs.Sets.{_⊆_, size}
 use Rattle.logic.specs.Expressions.{Expr, written}
 use Rattle.logic.specs.Decks.{Deck, Accepted, base}
-use Rattle.logic.specs.Meaning.{Claim, Holds, RunOf, Breaks, Broken, claimRun, stateOf}
+use Rattle.logic.specs.Meaning.{Claim, Holds, RunOf, Breaks, Broken, ClaimStep, claimRun, stateOf}
 use Rattle.logic.specs.Cones.{IsCone}
 use Rattle.logic.specs.Pieces.{split, pieces}
 use Rattle.logic.specs.Verdicts.{Verdict, Breaking, NotInitial as NotInitialState, NoStep as NoSuchStep, Holding as HoldingProperty, verdict}
 use Rattle.logic.proofs.Cone.{cone-is}
-use Rattle.logic.proofs.Verdict.{ClaimStep, accepted-exactly-when, refused-20-exactly-when, refused-21-exactly-when, refused-22-exactly-when}
+use Rattle.logic.proofs.Verdict.{accepted-exactly-when, refused-20-exactly-when, refused-21-exactly-when, refused-22-exactly-when}
 use Rattle.decks.specs.declared.Answer.{Answer}
 use Rattle.decks.specs.declared.Reply.{Reply}
 use Rattle.decks.specs.Answers.{Outcome, Got, Refused, replyOf}

@@ -5,7 +5,7 @@ use Rattle.cardlines.proofs.init_statement.Tie as tie
 use Rattle.cardlines.proofs.init_statement.Reads as reads
 use Rattle.cardlines.proofs.init_statement.Lts as lts
 use Rattle.cardlines.proofs.not_due.Reads as not-due-reads
-use Rattle.cardlines.proofs.stands_in.Reads as stands-in-reads
+use Rattle.decks.proofs.stands_in.Reads as stands-in-reads
 use Rattle.cardlines.proofs.stopped.Reads as stopped-reads
 use Rattle.decks.proofs.put_state.Reads as put-state-reads
 use Rattle.grammar.proofs.read_binary.Reads as read-binary-reads

@@ -5,7 +5,7 @@ use Rattle.conjuncts.proofs.add_state.Statement.{statement}
 use Rattle.conjuncts.proofs.add_state.Tie as tie
 use Rattle.conjuncts.proofs.add_state.Reads as reads
 use Rattle.conjuncts.proofs.add_state.Lts as lts
-use Rattle.conjuncts.proofs.stands_in.Reads as stands-in-reads
+use Rattle.decks.proofs.stands_in.Reads as stands-in-reads
 use Rattle.decks.proofs.put_state.Reads as put-state-reads
 
 -- src/lib.rt:55:8

@@ -6,7 +6,7 @@ use Rattle.decklines.proofs.init_line.Tie as tie
 use Rattle.decklines.proofs.init_line.Reads as reads
 use Rattle.decklines.proofs.init_line.Lts as lts
 use Rattle.decklines.proofs.bad.Reads as bad-reads
-use Rattle.decklines.proofs.stands_in.Reads as stands-in-reads
+use Rattle.decks.proofs.stands_in.Reads as stands-in-reads
 use Rattle.decklines.proofs.stopped.Reads as stopped-reads
 use Rattle.decks.proofs.put_state.Reads as put-state-reads
 use Rattle.lines.proofs.number_at.Reads as number-at-reads

@@ -12,7 +12,7 @@ use Rattle.reading.proofs.read_deck.Lts as lts
 use Rattle.decklines.proofs.nothing.Reads as nothing-reads
 use Rattle.ends.proofs.line_end.Reads as line-end-reads
 use Rattle.reading.proofs.deck_line.Reads as deck-line-reads
-use Rattle.reading.proofs.refused.Reads as refused-reads
+use Rattle.decks.proofs.refused.Reads as refused-reads
 use Rattle.sets.proofs.lowest.Reads as lowest-reads
 use Rattle.sets.proofs.without.Reads as without-reads
 

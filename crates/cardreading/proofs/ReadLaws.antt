@@ -1,0 +1,148 @@
+-- Laws of the reader of cards: what the second pass returns of the statements, and the reader of both passes.
+use mathlib.Core.Path.{_≡_, refl, sym, ap, _∙_, subst}
+use mathlib.Core.Bool.{true, false, not}
+use mathlib.Core.List.{List, [], _∷_}
+use Prim.Native.Nat.{ℕ, _<_, _≤_}
+use native.Mathlib.Omega.{arith}
+use lib.ListN.{length, drop, replicate, length-replicate}
+use denote.Enum.Declared.{tagOf}
+use types.Run.{OneOf, miss}
+use borrow.Author.Tests.{lt-ltb, le-ltb, not-true, not-false}
+use Rattle.decks.specs.declared.Answer.{Answer}
+use Rattle.decks.specs.declared.Answer.the-variants.{Fine, TooLong, NotDue}
+use Rattle.decks.specs.declared.DeckRead.{DeckRead}
+use Rattle.decks.specs.Answers.{Outcome, Got, Refused, afterwards}
+use Rattle.decks.specs.Readings.{walk, complete}
+use Rattle.decks.specs.Stored.{deckRead}
+use Rattle.decks.proofs.Answer.{the-type as answers}
+use Rattle.cards.specs.Card.{cardsOf, inForm}
+use Rattle.cards.specs.Statement.{statementsOf}
+use Rattle.cards.specs.Typed.{deckOf}
+use Rattle.cards.specs.Read.{Due, DueVars, DueInit, DueAny, DueEquation, DueEnd, DueNone, Sofar, begun, statementRead, cardsEnd, readCards}
+use Rattle.cards.proofs.StatementLaws.{walk-spelt}
+use Rattle.firstpass.specs.Passed.{passed}
+use Rattle.firstpass.proofs.Laws.{passed-fine, passed-refused}
+use Rattle.statements.specs.Hold.{Formed}
+use Rattle.statements.proofs.Laws.{formed-whole}
+use Rattle.cardlines.specs.declared.Held.{Held}
+use Rattle.cardlines.specs.declared.StatementRead.{StatementRead}
+use Rattle.cardlines.specs.Held.{dueNumber, Holds, Came}
+use Rattle.cardreading.specs.Finished.{Ready, Empty}
+
+-- Arrays of zeros before the first statement.
+pub zeros-empty : Empty (replicate 64 0) (replicate 1320 0) (replicate 256 0) (replicate 256 0) (replicate 2048 0) (replicate 128 0)
+zeros-empty =
+    record {
+      inits-zero = refl;
+      scratch-long = length-replicate {A = ℕ} 1320 0;
+      lefts-zero = refl;
+      ends-zero = refl;
+      nodes-zero = refl;
+      property-long = length-replicate {A = ℕ} 128 0;
+    }
+
+-- ---- behind the last statement
+
+due-none : (u : Due) → dueNumber u ≡ 5 → u ≡ DueNone
+due-none DueVars e = absurd (omega arith)
+due-none DueInit e = absurd (omega arith)
+due-none DueAny e = absurd (omega arith)
+due-none DueEquation e = absurd (omega arith)
+due-none DueEnd e = absurd (omega arith)
+due-none DueNone e = refl
+
+-- A statement that is due and missing.
+end-missing : (s : Sofar) (u : Due) → s .due ≡ u → (dueNumber u ≡ 5 → ⊥) → cardsEnd s ≡ Refused (NotDue 0)
+unfolding cardsEnd
+end-missing s DueVars e h = simp (e, cardsEnd)
+end-missing s DueInit e h = simp (e, cardsEnd)
+end-missing s DueAny e h = simp (e, cardsEnd)
+end-missing s DueEquation e h = simp (e, cardsEnd)
+end-missing s DueEnd e h = simp (e, cardsEnd)
+end-missing s DueNone e h = absurd (h refl)
+
+end-complete : (s : Sofar) → s .due ≡ DueNone → cardsEnd s ≡ complete (deckOf (s .typed))
+unfolding cardsEnd
+end-complete s e = simp (e, cardsEnd)
+
+-- ---- the second pass
+
+-- What the statements of a text come to.
+abbrev statementsRead : List ℕ → Outcome Sofar
+statementsRead text = walk statementRead 1 (statementsOf (cardsOf text)) begun
+
+module _ (text : List ℕ) (r : StatementRead) (inits lefts ends nodes property : List ℕ) where
+  abbrev AllCame : Type 0
+  AllCame = Came (statementsRead text) r inits lefts ends nodes property
+
+  all-refused : AllCame → r .fine ≡ false → statementsRead text ≡ Refused (r .answer)
+  all-refused = go (statementsRead text)
+    where
+      go : (o : Outcome Sofar) → Came o r inits lefts ends nodes property → r .fine ≡ false → o ≡ Refused (r .answer)
+      go (Got s) c e = let z : true ≡ false = sym (c .0) ∙ e in let i : _≡_ {A = ℕ} 0 1 = cc in absurd (omega arith)
+      go (Refused a) c e = ap (λ (x : StatementRead). Refused (x .answer)) (sym c)
+
+  all-held : AllCame → r .fine ≡ true → (s : Sofar) × (statementsRead text ≡ Got s) × Holds s (r .held) inits lefts ends nodes property
+  all-held = go (statementsRead text)
+    where
+      go : (o : Outcome Sofar) → Came o r inits lefts ends nodes property → r .fine ≡ true → (s : Sofar) × (o ≡ Got s) × Holds s (r .held) inits lefts ends nodes property
+      go (Got s) c e = (s, refl, c .1)
+      go (Refused a) c e = let z : false ≡ true = ap (λ (x : StatementRead). x .fine) (sym c) ∙ e in let i : _≡_ {A = ℕ} 0 1 = cc in absurd (omega arith)
+
+  all-ready : AllCame → not (r .fine) ≡ false → r .held .due ≡ 5 → (s : Sofar) × (statementsRead text ≡ Got s) × Ready s (r .held) inits lefts ends nodes property
+  all-ready c f d =
+      let (s, e, h) = all-held c (not-false (r .fine) f) in
+      let none : s .due ≡ DueNone = due-none (s .due) (ap (λ (x : Held). x .due) (sym (h .held-is)) ∙ d) in
+      (s, e, record { holds = h; ended = none; stated = walk-spelt 1 (statementsOf (cardsOf text)) s e none .1 })
+
+  -- `END` was read: the deck is ready to be finished.
+  pub ready : AllCame → not (r .fine) ≡ false → r .held .due ≡ 5 → (s : Sofar) × Ready s (r .held) inits lefts ends nodes property
+  ready c f d = let (s, e, h) = all-ready c f d in (s, h)
+
+  module _ (x : DeckRead) where
+    pub statement-refused : AllCame → not (r .fine) ≡ true → x ≡ deckRead (Refused (r .answer)) → x ≡ deckRead (afterwards (statementsRead text) cardsEnd)
+    statement-refused c f q = q ∙ ap (λ (o : Outcome Sofar). deckRead (afterwards o cardsEnd)) (sym (all-refused c (not-true (r .fine) f)))
+
+    pub statement-missing : AllCame → not (r .fine) ≡ false → (r .held .due ≡ 5 → ⊥) → x ≡ deckRead (Refused (NotDue 0)) → x ≡ deckRead (afterwards (statementsRead text) cardsEnd)
+    statement-missing c f d q =
+        let (s, e, h) = all-held c (not-false (r .fine) f) in
+        q
+        ∙ ap deckRead (sym (end-missing s (s .due) refl (λ n. d (ap (λ (y : Held). y .due) (h .held-is) ∙ n))))
+        ∙ ap (λ (o : Outcome Sofar). deckRead (afterwards o cardsEnd)) (sym e)
+
+    pub deck-finished : AllCame → not (r .fine) ≡ false → r .held .due ≡ 5 → ((s : Sofar) → Ready s (r .held) inits lefts ends nodes property → x ≡ deckRead (complete (deckOf (s .typed)))) → x ≡ deckRead (afterwards (statementsRead text) cardsEnd)
+    deck-finished c f d g =
+        let (s, e, h) = all-ready c f d in
+        g s h ∙ ap deckRead (sym (end-complete s (h .ended))) ∙ ap (λ (o : Outcome Sofar). deckRead (afterwards o cardsEnd)) (sym e)
+
+-- ---- both passes
+
+-- The cases of an answer but the first, by their places.
+abbrev others : List ℕ
+others = 1 ∷ 2 ∷ 3 ∷ 4 ∷ 5 ∷ 6 ∷ 7 ∷ 8 ∷ 9 ∷ 10 ∷ 11 ∷ 12 ∷ 13 ∷ 14 ∷ 15 ∷ 16 ∷ 17 ∷ 18 ∷ 19 ∷ 20 ∷ []
+
+not-fine : (a : Answer) → OneOf others (tagOf answers a) → a ≡ Fine → ⊥
+not-fine a h e = miss others 0 tt (subst (λ (b : Answer). OneOf others (tagOf answers b)) e h)
+
+module _ (text : List ℕ) (x : DeckRead) where
+  pub too-long : 64800 < length text → x ≡ deckRead (Refused (TooLong 1)) → x ≡ deckRead (readCards text)
+  unfolding readCards
+  too-long h q = let z : readCards text ≡ Refused (TooLong 1) = simp (lt-ltb 64800 (length text) h, readCards) in q ∙ ap deckRead (sym z)
+
+  module _ (a : Answer) where
+    pub not-in-form : length text ≤ 64800 → a ≡ passed (inForm (cardsOf text)) → OneOf others (tagOf answers a) → x ≡ deckRead (Refused a) → x ≡ deckRead (readCards text)
+    unfolding readCards
+    not-in-form h e n q =
+        let w : inForm (cardsOf text) ≡ Refused a = passed-refused (cardsOf text) (λ i. not-fine a n (e ∙ i)) ∙ ap Refused (sym e) in
+        let z : readCards text ≡ Refused a = simp (le-ltb 64800 (length text) h, w, readCards) in
+        q ∙ ap deckRead (sym z)
+
+    pub in-form-read : length text ≤ 64800 → a ≡ passed (inForm (cardsOf text)) → a ≡ Fine → x ≡ deckRead (afterwards (statementsRead text) cardsEnd) → x ≡ deckRead (readCards text)
+    unfolding readCards
+    in-form-read h e f q =
+        let (o, w) = passed-fine (cardsOf text) (sym e ∙ f) in
+        let z : readCards text ≡ afterwards (statementsRead text) cardsEnd = simp (le-ltb 64800 (length text) h, w, readCards) in
+        q ∙ ap deckRead (sym z)
+
+pub in-form : (text : List ℕ) (a : Answer) → a ≡ passed (inForm (cardsOf text)) → a ≡ Fine → Formed 1 (cardsOf (drop 0 text))
+in-form text a e f = let (o, w) = passed-fine (cardsOf text) (sym e ∙ f) in formed-whole text o w
