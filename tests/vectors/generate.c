@@ -1392,6 +1392,71 @@ static void worked_deck(void)
     emit_deck('r', &one);
 }
 
+/* A deck of cards through all operations that take one. */
+static void emit_cards(const char *words)
+{
+    set_text(&one, words);
+    emit('d', &one, &nothing, 0, 0);
+    emit_deck('w', &one);
+    emit_deck('r', &one);
+}
+
+/* One variable, these cards for its equation, and this property. */
+static void emit_small(const char *equation, const char *property)
+{
+    static char deck[9000];
+    sprintf(deck, "      VARS 1\n      INIT 0\n%s      PROP %s\n      END\n", equation, property);
+    emit_cards(deck);
+}
+
+/* The paper's lines about cards, and the decks of the incident: V12 across
+   column 72, a tab before it, and V12 on a card that continues. */
+static void named_lines(void)
+{
+    static const char *const beyond[] = { "2", "00000010", "0000001", "" };
+    static const char *const last[] = { "63", "64", "100" };
+    static const char *const slid[] = { "        V12)))))", "\tV12)))))", "\n     1V12)))))" };
+    char words[4000];
+    for (int more = 19; more <= 20; more++) {
+        int at = sprintf(words, "      V0=\n");
+        for (int i = 1; i < more; i++)
+            at += sprintf(words + at, "     +\n");
+        sprintf(words + at, "     +0\n");
+        emit_small(words, "0");
+    }
+    for (int i = 0; i < 4; i++) {
+        sprintf(words, "%-72s%s\n", "      V0=0", beyond[i]);
+        emit_small(words, "0");
+    }
+    for (int columns = 80; columns <= 81; columns++) {
+        sprintf(words, "%-*s\n", columns, "      V0=0");
+        emit_small(words, "0");
+    }
+    for (int level = 32; level <= 33; level++) {
+        memset(words, '~', 33);
+        strcpy(words + level - 1, "0");
+        emit_small("      V0=0\n", words);
+    }
+    for (int i = 0; i < 3; i++) {
+        int at = sprintf(words, "      VARS 64\n      INIT%062d\n     100\n", 0);
+        for (int v = 0; v < 63; v++)
+            at += sprintf(words + at, "      V%d=0\n", v);
+        sprintf(words + at, "      V63=V%s\n      PROP 0\n      END\n", last[i]);
+        emit_cards(words);
+    }
+    for (int i = 0; i < 3; i++) {
+        int at = sprintf(words,
+                         "C GATE 7: THE LOCKOUT V0 BEHIND TWELVE RELAYS\n"
+                         "      VARS 13\n      INIT 0000000000000\n"
+                         "      V0=(((V1&V2)+(V3&V4))&((V5+V6)&((V7+V8)&((V9+V10)&(V11&~%s\n      V1=V12\n",
+                         slid[i]);
+        for (int v = 2; v < 12; v++)
+            at += sprintf(words + at, "      V%d=V%d\n", v, v - 1);
+        sprintf(words + at, "      V12=0\n      V12=1\n      PROP G~V0\n      END\n");
+        emit_cards(words);
+    }
+}
+
 /* Statements in place of the one due, each form of 8 among them, and the
    neighbours of 8: 9, 10 and 11. */
 static void forms(void)
@@ -2037,6 +2102,7 @@ int main(int count, char **words)
         return 2;
     }
     worked_deck();
+    named_lines();
     forms();
     levels();
     limits();
