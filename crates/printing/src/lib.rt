@@ -10,7 +10,7 @@ ghost use Rattle.frames.specs.Read.{readDeck};
 ghost use Rattle.printing.specs.Printed.{refusalFrame, printedInto, deckPrintedInto, replied, sizeText, coneLine, conePrintedInto, verdictInto};
 
 // The frame FF into a buffer that has room for it, and its length.
-fn put_refusal(number: u64, text: u64, place: u64, out: &mut [u8]) -> usize
+pub fn put_refusal(number: u64, text: u64, place: u64, out: &mut [u8]) -> usize
     ensures { λ r. ⌜ (r ≡ filled (refusalFrame number text place) (now (out .entry)) .report .bytes) × (now (out .exit) ≡ filled (refusalFrame number text place) (now (out .entry)) .buffer) ⌝ }
 {
     if out.len() < 15 {
@@ -68,7 +68,7 @@ pub fn frames_deck(text: &[u8], out: &mut [u8]) -> usize
 
 // The bytes of a size behind its set.
 fn size_bytes(size: u64) -> usize
-    ensures { λ n. ⌜ n ≡ length (sizeText size) ⌝ }
+    ensures { λ n. ⌜ (n ≡ length (sizeText size)) × (n ≤ 4) ⌝ }
 {
     if size < 10 {
         return 3;

@@ -17,12 +17,6 @@ struct Input {
     length: usize,
 }
 
-// A set of the command line, or that it is none.
-struct Set {
-    wrong: bool,
-    set: u64,
-}
-
 // What is asked of one text.
 enum Asked {
     Nothing,
@@ -139,10 +133,8 @@ fn same(a: &[u8], b: &[u8]) -> bool {
     }
     let mut i = 0;
     while i < a.len() {
-        if i < b.len() {
-            if a[i] != b[i] {
-                return false;
-            }
+        if a[i] != b[i] {
+            return false;
         }
         i += 1;
     }
@@ -175,53 +167,11 @@ fn read_text(i: usize, text: &mut [u8]) -> Input
     read_file(&name[..n], text)
 }
 
-// The value of a hexadecimal digit, 16 of any other byte.
-fn digit(b: u8) -> u64 {
-    if b < 48 {
-        return 16;
-    }
-    if b < 58 {
-        return (b - 48) as u64;
-    }
-    if b < 65 {
-        return 16;
-    }
-    if b < 71 {
-        return (b - 55) as u64;
-    }
-    if b < 97 {
-        return 16;
-    }
-    if b < 103 {
-        return (b - 87) as u64;
-    }
-    16
-}
-
-// The set that sixteen hexadecimal digits give.
-fn set_of(word: &[u8]) -> Set {
-    let mut wrong = word.len() != 16;
-    let mut set = 0u64;
-    let mut i = 0;
-    while i < word.len() {
-        let d = digit(word[i]);
-        if d > 15 {
-            wrong = true;
-        }
-        set = std::num::wrapping_add_u64(set << 4, d);
-        i += 1;
-    }
-    Set {
-        wrong: wrong,
-        set: set,
-    }
-}
-
 // The set that word i of the command line gives.
-fn read_set(i: usize) -> Set {
+fn read_set(i: usize) -> lines::Number {
     let mut buffer = [0u8; 32];
     let n = os::arg(i, &mut buffer);
-    set_of(&buffer[..n])
+    lines::number_at(&buffer[..n], 0, 8)
 }
 
 // ---- replies
@@ -286,8 +236,8 @@ fn put_answer(asked: Asked, text: &[u8], out: &mut [u8]) -> usize {
         Asked::FramesDeck => printing::frames_deck(text, out),
         Asked::CardsPieces => printing::cards_pieces(text, out),
         Asked::FramesPieces => printing::frames_pieces(text, out),
-        Asked::CardsExplained => 0,
-        Asked::FramesExplained => 0,
+        Asked::CardsExplained => explaining::cards(text, out),
+        Asked::FramesExplained => explaining::frames(text, out),
     }
 }
 
@@ -327,34 +277,40 @@ fn answer_cone(text: &[u8], set: u64) {
 }
 
 fn on_cone() {
-    let s = read_set(3);
-    if s.wrong {
+    let lines::Number::Good(set) = read_set(3) else {
         io::write_all(
             STDERR_FILENO,
-            b"micaplume: the set is not sixteen hexadecimal digits; bit i stands for Vi, as in 0000000000000005 for V0 and V2\n",
+            b"micaplume: give the set as sixteen digits 0 to 9 and A to F, bit i for Vi: 0000000000000005 is V0 and V2\n",
         );
         return;
-    }
+    };
     let mut text = room();
     let input = read_text(2, &mut text);
     if input.failed {
         return;
     }
     let n = input.length;
-    answer_cone(&text[..n], s.set);
+    answer_cone(&text[..n], set);
 }
 
-// The verdict on a claim.
+// The verdict on a claim, in words or as a frame.
+fn put_verdict<'a>(explained: bool, deck: &'a [u8], claim: &'a [u8], out: &mut [u8]) -> usize {
+    if explained {
+        return explaining::check(deck, claim, out);
+    }
+    printing::check(deck, claim, out)
+}
+
 fn answer_check<'a>(explained: bool, deck: &'a [u8], claim: &'a [u8]) {
     let mut out = io::large_buffer();
-    let n = printing::check(deck, claim, &mut out);
+    let n = put_verdict(explained, deck, claim, &mut out);
     write_reply(&out, n);
 }
 
-// The deck that word i names, and the claim that the next word names.
-fn on_claim(explained: bool, i: usize) {
+// The deck that word i names, and the claim that word j names.
+fn on_claim(explained: bool, i: usize, j: usize) {
     if is_word(i, b"-") {
-        if is_word(i + 1, b"-") {
+        if is_word(j, b"-") {
             io::write_all(
                 STDERR_FILENO,
                 b"micaplume: deck and claim cannot both be read from standard input; name a file for one of them\n",
@@ -368,7 +324,7 @@ fn on_claim(explained: bool, i: usize) {
         return;
     }
     let mut claim = room();
-    let second = read_text(i + 1, &mut claim);
+    let second = read_text(j, &mut claim);
     if second.failed {
         return;
     }
@@ -408,7 +364,7 @@ fn asked_of_frames() -> Asked {
 }
 
 // What the first two words ask of a text.
-fn asked() -> Asked {
+fn wanted() -> Asked {
     if is_word(2, b"cards") {
         return asked_of_cards();
     }
@@ -425,10 +381,10 @@ fn three_words() {
         return;
     }
     if is_word(1, b"check") {
-        on_claim(false, 2);
+        on_claim(false, 2, 3);
         return;
     }
-    match asked() {
+    match wanted() {
         Asked::Nothing => say_wrong(),
         a => on_text(a),
     }
@@ -438,7 +394,7 @@ fn three_words() {
 fn four_words() {
     if is_word(1, b"explain") {
         if is_word(2, b"check") {
-            on_claim(true, 3);
+            on_claim(true, 3, 4);
             return;
         }
     }
