@@ -158,9 +158,22 @@ fn first_no_digit(card: &[u8]) -> usize {
     0
 }
 
-// The first of columns 73 to 80 that is wrong: behind a digit in 73 all are digits, else all are blank.
+// How many of columns 73 to 80 are digits.
+fn digits(card: &[u8]) -> usize {
+    let mut count = 0;
+    let mut c = 73;
+    while c <= 80 {
+        if is_digit(firstpass::column(card, c)) {
+            count += 1;
+        }
+        c += 1;
+    }
+    count
+}
+
+// The first of columns 73 to 80 that is wrong: of a number the first that is no digit, of other text its first.
 fn first_wrong(card: &[u8]) -> usize {
-    if is_digit(firstpass::column(card, 73)) {
+    if digits(card) > 4 {
         return first_no_digit(card);
     }
     first_filled(card, 73, 80)
@@ -506,8 +519,7 @@ fn put_state(out: &mut [u8], at: usize, words: &[u8], claim: &[u8], i: u64) -> u
     let l = line_of(claim, std::num::wrapping_add_u64(i, 2));
     let from = l.from;
     let to = l.to;
-    let b = put_line(out, a, &claim[from..to]);
-    b
+    put_line(out, a, &claim[from..to])
 }
 
 // The state that a step enters.
@@ -544,13 +556,13 @@ fn accepted(claim: &[u8], out: &mut [u8]) -> usize {
     let b = put::text(
         out,
         a,
-        b"Accepted: a run of the deck on which its property fails.\n",
+        b"Accepted: a run of the deck on which its property fails.\nThe run has ",
     );
-    let c = put::numbered(
+    let c = put::count(
         out,
         b,
-        b"It has ",
         number_in(claim, 2),
+        b" state before its loop and ",
         b" states before its loop and ",
     );
     put::numbered(out, c, b"", number_in(claim, 6), b" in it.\n")

@@ -95,8 +95,7 @@ pub fn ruler(out: &mut [u8], at: usize) -> usize {
     put::text(
         out,
         at,
-        b"\
-         1         2         3         4         5         6         7         8
+        b"         1         2         3         4         5         6         7         8
 12345678901234567890123456789012345678901234567890123456789012345678901234567890
 ",
     )
@@ -268,10 +267,11 @@ A deck is these lines, in this order, each ended by byte 10:
   02 state       an initial state, 16 digits; one or more, no two equal
   03 vv code     an equation of variable vv, 00 to 3F, by rising variable
   04 code        the property
-  05 nnnn        the number of lines above it
+  05 nnnn        the number of lines above it, 4 digits
 A claim is 11 pppp cccc with c at least 1 and p+c at most 1,024; p+c lines 12 state; 15 nnnn.
 A code stands in prefix order: 00 to 3F variables, 40 0, 41 1, 42 ~, 43 &, 44 +, 45 X, 46 F,
-47 G, 48 U, 49 W. Digits are 0 to 9 and A to F, without blanks, and no line follows the last.
+47 G, 48 U, 49 W. Digits are hexadecimal, 0 to 9 and A to F, two a byte, without blanks. No line
+follows the last.
 ",
     )
 }
