@@ -125,12 +125,12 @@ fn first_outside(card: &[u8]) -> usize {
     0
 }
 
-// The first column from `first` to `last` that is not blank.
-fn first_filled(card: &[u8], first: usize, last: usize) -> usize
+// The first column from `first` on, and before `end`, that is not blank.
+fn first_filled(card: &[u8], first: usize, end: usize) -> usize
     requires { ⌜ 1 ≤ first ⌝ }
 {
     let mut c = first;
-    while c <= last {
+    while c < end {
         if firstpass::column(card, c) != b' ' {
             return c;
         }
@@ -139,18 +139,24 @@ fn first_filled(card: &[u8], first: usize, last: usize) -> usize
     0
 }
 
-fn is_digit(b: u8) -> bool {
+// 1 for a digit, 0 for any other character.
+fn digits_of(b: u8) -> usize
+    ensures { λ r. ⌜ r ≤ 1 ⌝ }
+{
     if b < b'0' {
-        return false;
+        return 0;
     }
-    b <= b'9'
+    if b > b'9' {
+        return 0;
+    }
+    1
 }
 
 // The first of columns 73 to 80 that is no digit.
 fn first_no_digit(card: &[u8]) -> usize {
     let mut c = 73;
-    while c <= 80 {
-        if !is_digit(firstpass::column(card, c)) {
+    while c < 81 {
+        if digits_of(firstpass::column(card, c)) == 0 {
             return c;
         }
         c += 1;
@@ -162,10 +168,8 @@ fn first_no_digit(card: &[u8]) -> usize {
 fn digits(card: &[u8]) -> usize {
     let mut count = 0;
     let mut c = 73;
-    while c <= 80 {
-        if is_digit(firstpass::column(card, c)) {
-            count += 1;
-        }
+    while c < 81 {
+        count += digits_of(firstpass::column(card, c));
         c += 1;
     }
     count
@@ -176,7 +180,7 @@ fn first_wrong(card: &[u8]) -> usize {
     if digits(card) > 4 {
         return first_no_digit(card);
     }
-    first_filled(card, 73, 80)
+    first_filled(card, 73, 81)
 }
 
 // The column at fault of a card, 0 where it is not known.
@@ -188,7 +192,7 @@ fn column_of(number: u64, card: &[u8]) -> usize {
         return 81;
     }
     if number == 4 {
-        return first_filled(card, 1, 5);
+        return first_filled(card, 1, 6);
     }
     if number == 5 {
         return first_wrong(card);
@@ -328,14 +332,20 @@ fn frames_refused(number: u64, which: u64, place: u64, text: &[u8], out: &mut [u
 
 // ---- summaries
 
-// The variables of a set, each behind a blank.
+// A variable behind a blank, where the set has it.
+fn put_variable(out: &mut [u8], at: usize, set: u64, v: usize) -> usize {
+    if sets::member(set, v) {
+        return put::numbered(out, at, b" V", v as u64, b"");
+    }
+    at
+}
+
+// The variables of a set.
 fn put_variables(out: &mut [u8], at: usize, set: u64) -> usize {
     let mut end = at;
     let mut v = 0;
     while v < decks::VARIABLES {
-        if sets::member(set, v) {
-            end = put::numbered(out, end, b" V", v as u64, b"");
-        }
+        end = put_variable(out, end, set, v);
         v += 1;
     }
     end
@@ -388,21 +398,20 @@ fn put_conjunct(out: &mut [u8], at: usize, piece: u64, line: &[u8]) -> usize {
     put::byte(out, b, 10)
 }
 
-// Its variables, and what was cut away.
+// How many of all variables it has, and how many were cut away.
+fn put_sizes(out: &mut [u8], at: usize, vars: u64, all: u64) -> usize {
+    let cut = sets::size(sets::without(all, vars)) as u64;
+    let a = put::numbered(out, at, b" (", sets::size(vars) as u64, b" of ");
+    let b = put::numbered(out, a, b"", sets::size(all) as u64, b"; ");
+    let c = put::count(out, b, cut, b" relay", b" relays");
+    put::text(out, c, b" cut away)\n")
+}
+
+// Its variables.
 fn put_cone(out: &mut [u8], at: usize, vars: u64, all: u64) -> usize {
     let a = put::text(out, at, b"  variables:");
     let b = put_variables(out, a, vars);
-    let c = put::numbered(out, b, b" (", sets::size(vars) as u64, b" of ");
-    let d = put::number(out, c, sets::size(all) as u64);
-    let e = put::text(out, d, b"; ");
-    let f = put::count(
-        out,
-        e,
-        sets::size(sets::without(all, vars)) as u64,
-        b" relay",
-        b" relays",
-    );
-    put::text(out, f, b" cut away)\n")
+    put_sizes(out, b, vars, all)
 }
 
 fn put_counts(out: &mut [u8], at: usize, initials: u64, equations: u64) -> usize {
@@ -413,7 +422,7 @@ fn put_counts(out: &mut [u8], at: usize, initials: u64, equations: u64) -> usize
 }
 
 // A frame of a piece.
-fn told(out: &mut [u8], t: Told, line: &[u8], all: u64) -> Told {
+fn put_piece_frame(out: &mut [u8], t: Told, line: &[u8], all: u64) -> Told {
     let kind = lines::pair_at(line, 0);
     if kind == 1 {
         return begun(t, line);
@@ -445,7 +454,7 @@ fn put_pieces(out: &mut [u8], at: usize, frames: &[u8], all: u64) -> usize {
     let mut from = 0;
     while from < frames.len() {
         let to = ends::line_end(frames, from);
-        t = told(out, t, &frames[from..to], all);
+        t = put_piece_frame(out, t, &frames[from..to], all);
         if to >= frames.len() {
             return t.at;
         }
@@ -454,28 +463,37 @@ fn put_pieces(out: &mut [u8], at: usize, frames: &[u8], all: u64) -> usize {
     t.at
 }
 
-// What an accepted deck has.
-fn put_deck(out: &mut [u8], d: decks::Deck, pieces: u64) -> usize {
+// The variables of an accepted deck.
+fn put_vars(out: &mut [u8], vars: u64) -> usize {
     let a = put::text(out, 0, b"Accepted.\nVariables:");
-    let b = put_variables(out, a, d.vars);
-    let c = put::numbered(out, b, b" (", sets::size(d.vars) as u64, b")\n");
-    let e = put::numbered(out, c, b"Initial states: ", d.initials as u64, b"\n");
-    let f = put::numbered(out, e, b"Equations: ", d.equations as u64, b"\n");
-    put::numbered(out, f, b"Pieces: ", pieces, b"\n")
+    let b = put_variables(out, a, vars);
+    put::numbered(out, b, b" (", sets::size(vars) as u64, b")\n")
+}
+
+// What else it has.
+fn put_numbers(out: &mut [u8], at: usize, initials: usize, equations: usize, pieces: u64) -> usize {
+    let a = put::numbered(out, at, b"Initial states: ", initials as u64, b"\n");
+    let b = put::numbered(out, a, b"Equations: ", equations as u64, b"\n");
+    put::numbered(out, b, b"Pieces: ", pieces, b"\n")
 }
 
 fn summary(d: decks::Deck, pieces: u64, frames: &[u8], out: &mut [u8]) -> usize {
     let all = d.vars;
-    let a = put_deck(out, d, pieces);
-    let b = put_pieces(out, a, frames, all);
-    ended(out, b)
+    let a = put_vars(out, all);
+    let b = put_numbers(out, a, d.initials, d.equations, pieces);
+    let c = put_pieces(out, b, frames, all);
+    ended(out, c)
 }
 
 // So many bytes of a buffer, at most all.
 fn first_bytes(n: u64, buffer: &[u8]) -> usize
     ensures { λ r. ⌜ Counts r (now (buffer .entry)) ⌝ }
 {
-    io::count(n as isize, buffer)
+    let bytes = n as usize;
+    if bytes < buffer.len() {
+        return bytes;
+    }
+    buffer.len()
 }
 
 // What a deck of cards comes to.
@@ -506,11 +524,24 @@ pub fn frames(text: &[u8], out: &mut [u8]) -> usize {
 
 // ---- claims
 
-// A number of two bytes in line 1 of a claim.
-fn number_in(claim: &[u8], at: usize) -> u64 {
-    let high = lines::pair_at(claim, at);
-    let low = lines::pair_at(claim, at + 2);
-    high % 256 * 256 + low % 256
+// The number of the two bytes whose pairs stand at these places of a claim.
+fn number_in(claim: &[u8], high: usize, low: usize) -> u64
+    ensures { λ r. ⌜ r ≤ 65535 ⌝ }
+{
+    lines::pair_at(claim, high) % 256 * 256 + lines::pair_at(claim, low) % 256
+}
+
+// p of a claim, and c.
+fn before_loop(claim: &[u8]) -> u64
+    ensures { λ r. ⌜ r ≤ 65535 ⌝ }
+{
+    number_in(claim, 2, 4)
+}
+
+fn in_loop(claim: &[u8]) -> u64
+    ensures { λ r. ⌜ r ≤ 65535 ⌝ }
+{
+    number_in(claim, 6, 8)
 }
 
 // State i of a claim, with its line.
@@ -524,9 +555,9 @@ fn put_state(out: &mut [u8], at: usize, words: &[u8], claim: &[u8], i: u64) -> u
 
 // The state that a step enters.
 fn entered(claim: &[u8], step: u64) -> u64 {
-    let p = number_in(claim, 2);
+    let p = before_loop(claim);
     let next = std::num::wrapping_add_u64(step, 1);
-    if next < p + number_in(claim, 6) {
+    if next < p + in_loop(claim) {
         return next;
     }
     p
@@ -561,11 +592,11 @@ fn accepted(claim: &[u8], out: &mut [u8]) -> usize {
     let c = put::count(
         out,
         b,
-        number_in(claim, 2),
+        before_loop(claim),
         b" state before its loop and ",
         b" states before its loop and ",
     );
-    put::numbered(out, c, b"", number_in(claim, 6), b" in it.\n")
+    put::numbered(out, c, b"", in_loop(claim), b" in it.\n")
 }
 
 // What a claim on a deck of frames comes to.

@@ -8,19 +8,15 @@ use Rattle.printing.proofs.cards_deck.Lts as lts
 use Rattle.printing.proofs.put_reply.Reads as put-reply-reads
 use Rattle.station.proofs.write_cards.Reads as write-cards-reads
 
--- src/lib.rt:45:9
 write-cards-requires : tie.Need-write-cards-requires
 write-cards-requires c κs = search needs
 
--- src/lib.rt:47:5
 put-reply-requires : tie.Need-put-reply-requires
 put-reply-requires c κs = search needs
 
--- src/lib.rt:42:1
 same-length : tie.Need-same-length
 same-length c = search needs
 
--- src/lib.rt:42:1
 returns : tie.Need-returns
 returns c = laws.deck-printed _ _ _ _ _ _ (cards-readable _) (c .before .before .before .before .before .before .write-cards .ensures) (c .before .before .put-reply .ensures)
 

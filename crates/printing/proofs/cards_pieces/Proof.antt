@@ -8,19 +8,15 @@ use Rattle.printing.proofs.cards_pieces.Lts as lts
 use Rattle.printing.proofs.put_reply.Reads as put-reply-reads
 use Rattle.station.proofs.reduce_cards.Reads as reduce-cards-reads
 
--- src/lib.rt:36:9
 reduce-cards-requires : tie.Need-reduce-cards-requires
 reduce-cards-requires c κs = search needs
 
--- src/lib.rt:38:5
 put-reply-requires : tie.Need-put-reply-requires
 put-reply-requires c κs = search needs
 
--- src/lib.rt:33:1
 same-length : tie.Need-same-length
 same-length c = search needs
 
--- src/lib.rt:33:1
 returns : tie.Need-returns
 returns c = laws.pieces-printed _ _ _ _ _ _ (cards-readable _) (c .before .before .before .before .before .before .reduce-cards .ensures) (c .before .before .put-reply .ensures)
 

@@ -7,19 +7,15 @@ use Rattle.printing.proofs.check.Lts as lts
 use Rattle.printing.proofs.put_refusal.Reads as put-refusal-reads
 use Rattle.station.proofs.check.Reads as check-reads
 
--- src/lib.rt:104:9
 check-requires : tie.Need-check-requires
 check-requires c κs = search needs
 
--- src/lib.rt:105:5
 put-refusal-requires : tie.Need-put-refusal-requires
 put-refusal-requires c κs = search needs
 
--- src/lib.rt:101:1
 same-length : tie.Need-same-length
 same-length c = search needs
 
--- src/lib.rt:101:1
 returns : tie.Need-returns
 returns c = laws.verdict-printed _ _ _ _ _ _ (c .before .before .before .before .check .ensures) (c .before .before .put-refusal .ensures)
 

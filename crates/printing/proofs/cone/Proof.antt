@@ -8,31 +8,24 @@ use Rattle.printing.proofs.put_cone.Reads as put-cone-reads
 use Rattle.printing.proofs.put_refusal.Reads as put-refusal-reads
 use Rattle.station.proofs.cone.Reads as cone-reads
 
--- src/lib.rt:93:9
 cone-requires : tie.Need-cone-requires
 cone-requires c κs = search needs
 
--- src/lib.rt:95:9
 put-refusal-requires : tie.Need-put-refusal-requires
 put-refusal-requires c κs = search needs
 
--- src/lib.rt:95:9
 same-length : tie.Need-same-length
 same-length c = search needs
 
--- src/lib.rt:95:9
 returns : tie.Need-returns
 returns c = laws.cone-refused _ _ _ _ _ _ (c .before .before .before .before .before .before .cone .ensures) (c .before .before .before .before .if1 .taken) (c .before .before .put-refusal .ensures)
 
--- src/lib.rt:97:5
 put-cone-requires : tie.Need-put-cone-requires
 put-cone-requires c κs = search needs
 
--- src/lib.rt:90:1
 same-length-2 : tie.Need-same-length-2
 same-length-2 c = search needs
 
--- src/lib.rt:90:1
 returns-2 : tie.Need-returns-2
 returns-2 c = laws.cone-printed _ _ _ _ _ _ (c .before .before .before .before .before .before .cone .ensures) (c .before .before .before .before .if1 .left) (c .before .before .put-cone .ensures)
 

@@ -8,19 +8,15 @@ use Rattle.printing.proofs.frames_pieces.Lts as lts
 use Rattle.printing.proofs.put_reply.Reads as put-reply-reads
 use Rattle.station.proofs.reduce_frames.Reads as reduce-frames-reads
 
--- src/lib.rt:36:9
 reduce-frames-requires : tie.Need-reduce-frames-requires
 reduce-frames-requires c κs = search needs
 
--- src/lib.rt:38:5
 put-reply-requires : tie.Need-put-reply-requires
 put-reply-requires c κs = search needs
 
--- src/lib.rt:33:1
 same-length : tie.Need-same-length
 same-length c = search needs
 
--- src/lib.rt:33:1
 returns : tie.Need-returns
 returns c = laws.pieces-printed _ _ _ _ _ _ (frames-readable _) (c .before .before .before .before .before .before .reduce-frames .ensures) (c .before .before .put-reply .ensures)
 

@@ -9,43 +9,33 @@ use Rattle.printing.proofs.put_size.Reads as put-size-reads
 use Rattle.printing.proofs.size_bytes.Reads as size-bytes-reads
 use Rattle.writing.proofs.put_number.Reads as put-number-reads
 
--- src/lib.rt:80:22
 size-bytes-requires : tie.Need-size-bytes-requires
 size-bytes-requires c κs = search needs
 
--- src/lib.rt:80:17
 add-bytes : tie.Need-add-bytes
 add-bytes c = search needs
 
--- src/lib.rt:82:9
 returns : tie.Need-returns
 returns c = laws.no-cone _ _ _ _ _ (c .before .size-bytes .ensures .0) refl (c .if1 .taken)
 
--- src/lib.rt:84:5
 put-number-requires : tie.Need-put-number-requires
 put-number-requires c κs = search needs
 
--- src/lib.rt:85:14
 sub-put-size : tie.Need-sub-put-size
 sub-put-size c = search needs
 
--- src/lib.rt:85:14
 part-put-size-start : tie.Need-part-put-size-start
 part-put-size-start c = search needs
 
--- src/lib.rt:85:14
 part-put-size-end : tie.Need-part-put-size-end
 part-put-size-end c = search needs
 
--- src/lib.rt:85:5
 put-size-requires : tie.Need-put-size-requires
 put-size-requires c κs = search needs
 
--- src/lib.rt:77:1
 same-length : tie.Need-same-length
 same-length c = search needs
 
--- src/lib.rt:77:1
 returns-2 : tie.Need-returns-2
 returns-2 c = laws.cone-put _ _ _ _ _ (c .before .before .before .before .before .before .before .before .before .size-bytes .ensures .0) refl _ _ (c .before .before .before .before .before .before .before .before .if1 .left) (c .before .before .before .before .before .before .put-number .ensures) (c .before .before .put-size .ensures)
 

@@ -6,19 +6,15 @@ use Rattle.printing.proofs.put_reply.Reads as reads
 use Rattle.printing.proofs.put_reply.Lts as lts
 use Rattle.printing.proofs.put_refusal.Reads as put-refusal-reads
 
--- src/lib.rt:27:9
 returns : tie.Need-returns
 returns c = laws.reply-stands _ _ _ (c .if1 .taken)
 
--- src/lib.rt:29:5
 put-refusal-requires : tie.Need-put-refusal-requires
 put-refusal-requires c κs = search needs
 
--- src/lib.rt:23:1
 same-length : tie.Need-same-length
 same-length c = search needs
 
--- src/lib.rt:23:1
 returns-2 : tie.Need-returns-2
 returns-2 c = laws.reply-refused _ _ _ _ _ (c .before .before .before .before .if1 .left) (c .before .before .put-refusal .ensures)
 

@@ -7,67 +7,51 @@ use Rattle.printing.proofs.put_size.Tie as tie
 use Rattle.printing.proofs.put_size.Reads as reads
 use Rattle.printing.proofs.put_size.Lts as lts
 
--- src/lib.rt:65:5
 slice-write-out : tie.Need-slice-write-out
 slice-write-out c = omega (arith, laws.least-bytes (c .args .size), c .pre)
 
--- src/lib.rt:67:19
 add-out : tie.Need-add-out
 add-out c = search needs
 
--- src/lib.rt:67:18
 cast-out : tie.Need-cast-out
 cast-out c = search needs
 
--- src/lib.rt:67:9
 slice-write-out-2 : tie.Need-slice-write-out-2
 slice-write-out-2 c = simp length-set (omega (arith, laws.least-bytes (c .before .args .size), c .before .pre))
 
--- src/lib.rt:68:9
 slice-write-out-3 : tie.Need-slice-write-out-3
 slice-write-out-3 c = simp length-set (omega (arith, laws.least-bytes (c .before .args .size), c .before .pre))
 
--- src/lib.rt:69:9
 same-length : tie.Need-same-length
 same-length c = search needs
 
--- src/lib.rt:69:9
 returns : tie.Need-returns
 returns c = laws.one-digit-put _ _ (c .before .pre) (c .if1 .taken)
 
--- src/lib.rt:71:15
 add-out-2 : tie.Need-add-out-2
 add-out-2 c = search needs
 
--- src/lib.rt:71:14
 cast-out-2 : tie.Need-cast-out-2
 cast-out-2 c = search needs
 
--- src/lib.rt:71:5
 slice-write-out-4 : tie.Need-slice-write-out-4
 slice-write-out-4 c = simp length-set (omega (arith, laws.least-bytes (c .before .args .size), c .before .pre))
 
--- src/lib.rt:72:15
 add-out-3 : tie.Need-add-out-3
 add-out-3 c = search needs
 
--- src/lib.rt:72:14
 cast-out-3 : tie.Need-cast-out-3
 cast-out-3 c = search needs
 
--- src/lib.rt:72:5
 slice-write-out-5 : tie.Need-slice-write-out-5
 slice-write-out-5 c = simp length-set (omega (arith, laws.least-bytes (c .before .args .size), c .before .pre))
 
--- src/lib.rt:73:5
 slice-write-out-6 : tie.Need-slice-write-out-6
 slice-write-out-6 c = simp length-set (omega (arith, laws.four-bytes (c .before .args .size) (c .if1 .left), c .before .pre))
 
--- src/lib.rt:61:1
 same-length-2 : tie.Need-same-length-2
 same-length-2 c = search needs
 
--- src/lib.rt:61:1
 returns-2 : tie.Need-returns-2
 returns-2 c = laws.two-digits-put _ _ (c .before .pre) (c .if1 .left)
 

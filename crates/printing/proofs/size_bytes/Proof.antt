@@ -6,11 +6,9 @@ use Rattle.printing.proofs.size_bytes.Tie as tie
 use Rattle.printing.proofs.size_bytes.Reads as reads
 use Rattle.printing.proofs.size_bytes.Lts as lts
 
--- src/lib.rt:55:9
 returns : tie.Need-returns
 returns c = (laws.three-bytes _ (c .if1 .taken), omega arith)
 
--- src/lib.rt:51:1
 returns-2 : tie.Need-returns-2
 returns-2 c = (laws.four-bytes _ (c .if1 .left), omega arith)
 
