@@ -269,19 +269,32 @@ fn is_line(number: u64, place: u64) -> bool {
     number == 16
 }
 
-// Line n of a text under a ruler.
-fn put_numbered_line(out: &mut [u8], at: usize, which: u64, text: &[u8], n: u64) -> usize {
-    let a = put_heading(out, at, b"Line ", which, n);
-    let l = line_of(text, n);
+// The line of a text at a refusal's place, under a ruler.
+fn put_frame_at(
+    out: &mut [u8],
+    at: usize,
+    number: u64,
+    which: u64,
+    place: u64,
+    text: &[u8],
+) -> usize {
+    if !is_line(number, place) {
+        return put_place(out, at, number, place);
+    }
+    let a = put_heading(out, at, b"Line ", which, place);
+    let l = line_of(text, place);
     let from = l.from;
     let to = l.to;
     put_ruled(out, a, &text[from..to], 0)
 }
 
-// Card n of a deck under a ruler, with a mark.
-fn put_card(out: &mut [u8], at: usize, number: u64, text: &[u8], n: u64) -> usize {
-    let a = put_heading(out, at, b"Card ", 1, n);
-    let l = line_of(text, n);
+// The card at a refusal's place, under a ruler and with a mark.
+fn put_card_at(out: &mut [u8], at: usize, number: u64, place: u64, text: &[u8]) -> usize {
+    if !is_line(number, place) {
+        return put_place(out, at, number, place);
+    }
+    let a = put_heading(out, at, b"Card ", 1, place);
+    let l = line_of(text, place);
     let from = l.from;
     let to = l.to;
     let column = column_of(number, &text[from..to]);
@@ -294,40 +307,32 @@ fn ended(out: &mut [u8], at: usize) -> usize {
     if at < room {
         return at;
     }
-    if room < 60 {
+    if room < 57 {
         return room;
     }
     put::text(
         out,
-        room - 60,
-        b"\n(cut here: there is more to say than the buffer has room)  \n",
+        room - 57,
+        b"\n(cut here: there is more to say than there is room for)\n",
     )
 }
 
-fn cards_refused(r: station::CountReply, text: &[u8], out: &mut [u8]) -> usize {
-    let number = r.number;
-    let place = r.place;
-    let a = put_frame(out, number, r.text, place);
-    if is_line(number, place) {
-        let b = put_card(out, a, number, text, place);
-        let c = words::advice(out, b, number);
-        return ended(out, c);
-    }
-    let b = put_place(out, a, number, place);
-    let c = words::advice(out, b, number);
-    ended(out, c)
+// What to do, at the end.
+fn advised(out: &mut [u8], at: usize, number: u64) -> usize {
+    let end = words::advice(out, at, number);
+    ended(out, end)
+}
+
+fn cards_refused(number: u64, which: u64, place: u64, text: &[u8], out: &mut [u8]) -> usize {
+    let a = put_frame(out, number, which, place);
+    let b = put_card_at(out, a, number, place, text);
+    advised(out, b, number)
 }
 
 fn frames_refused(number: u64, which: u64, place: u64, text: &[u8], out: &mut [u8]) -> usize {
     let a = put_frame(out, number, which, place);
-    if is_line(number, place) {
-        let b = put_numbered_line(out, a, which, text, place);
-        let c = words::advice(out, b, number);
-        return ended(out, c);
-    }
-    let b = put_place(out, a, number, place);
-    let c = words::advice(out, b, number);
-    ended(out, c)
+    let b = put_frame_at(out, a, number, which, place, text);
+    advised(out, b, number)
 }
 
 // ---- summaries
@@ -501,7 +506,7 @@ pub fn cards(text: &[u8], out: &mut [u8]) -> usize {
     let mut frames = io::large_buffer();
     let r = station::reduce_cards(text, &mut frames);
     if r.number != 0 {
-        return cards_refused(r, text, out);
+        return cards_refused(r.number, r.text, r.place, text, out);
     }
     let pieces = r.first;
     let n = first_bytes(r.second, &frames);
@@ -575,11 +580,10 @@ fn put_run(out: &mut [u8], at: usize, number: u64, place: u64, claim: &[u8]) -> 
     at
 }
 
-fn run_refused(number: u64, text: u64, place: u64, claim: &[u8], out: &mut [u8]) -> usize {
-    let a = put_frame(out, number, text, place);
+fn run_refused(number: u64, which: u64, place: u64, claim: &[u8], out: &mut [u8]) -> usize {
+    let a = put_frame(out, number, which, place);
     let b = put_run(out, a, number, place, claim);
-    let c = words::advice(out, b, number);
-    ended(out, c)
+    advised(out, b, number)
 }
 
 fn accepted(claim: &[u8], out: &mut [u8]) -> usize {

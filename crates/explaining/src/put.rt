@@ -44,7 +44,7 @@ pub fn count(out: &mut [u8], at: usize, n: u64, one: &[u8], more: &[u8]) -> usiz
     text(out, end, more)
 }
 
-// A text behind the two texts before it, and a number between them.
+// A number between two texts.
 pub fn numbered(out: &mut [u8], at: usize, before: &[u8], n: u64, behind: &[u8]) -> usize {
     let a = text(out, at, before);
     let b = number(out, a, n);

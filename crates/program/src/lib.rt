@@ -11,7 +11,7 @@ use libc::STDOUT_FILENO;
 // One byte more than a text may have: so many tell that it is too long.
 const ENOUGH: usize = decks::TEXT + 1;
 
-// How many bytes were read, or that none could be.
+// How many bytes were read, or that they could not all be read.
 struct Input {
     failed: bool,
     length: usize,
@@ -30,6 +30,7 @@ enum Asked {
 
 // ---- texts
 
+// Room for them.
 fn room() -> [u8; ENOUGH]
     ensures { λ r. ⌜ 64801 ≡ length r ⌝ }
 {
@@ -176,6 +177,14 @@ fn read_set(i: usize) -> lines::Number {
 
 // ---- replies
 
+// Says that a reply is not, or not wholly, written, and what to do.
+fn say_unwritten() {
+    io::write_all(
+        STDERR_FILENO,
+        b"micaplume: standard output cannot be written, so no reply counts; see where it leads and run again\n",
+    );
+}
+
 // Writes the first n bytes.
 fn write_reply(out: &[u8], n: usize) {
     if n <= out.len() {
@@ -184,10 +193,7 @@ fn write_reply(out: &[u8], n: usize) {
             return;
         }
     }
-    io::write_all(
-        STDERR_FILENO,
-        b"micaplume: standard output cannot be written: nothing printed counts; see where it leads and run again\n",
-    );
+    say_unwritten();
 }
 
 // The commands, one a line.
@@ -212,10 +218,7 @@ hexadecimal digits, bit i for Vi. A refusal is one frame FF: number, text, place
 fn help() {
     let is_written = write_commands(STDOUT_FILENO);
     if !is_written {
-        io::write_all(
-            STDERR_FILENO,
-            b"micaplume: standard output cannot be written\n",
-        );
+        say_unwritten();
     }
 }
 
