@@ -1,13 +1,16 @@
-// What the program prints, each reply with every byte promised: the frames asked for, or one frame FF.
+// What the program prints, each reply with every byte promised: what was asked for, or one frame FF.
 ghost use mathlib.Core.Path.{_≡_};
+ghost use mathlib.Core.List.{List};
+ghost use Prim.Native.Nat.{ℕ, _≤_};
 ghost use lib.ListN.{length};
-ghost use Rattle.texts.specs.Texts.{filled};
+ghost use Rattle.lists.specs.Lists.{splice};
+ghost use Rattle.texts.specs.Texts.{Filled, filled};
 ghost use Rattle.cards.specs.Read.{readCards};
 ghost use Rattle.frames.specs.Read.{readDeck};
-ghost use Rattle.printing.specs.Printed.{refusalFrame, printedInto};
+ghost use Rattle.printing.specs.Printed.{refusalFrame, printedInto, deckPrintedInto, replied, sizeText, coneLine, conePrintedInto, verdictInto};
 
 // The frame FF into a buffer that has room for it, and its length.
-fn put_refusal(number: u64, text: u64, place: u64, out: &mut [u8]) -> usize
+pub fn put_refusal(number: u64, text: u64, place: u64, out: &mut [u8]) -> usize
     ensures { λ r. ⌜ (r ≡ filled (refusalFrame number text place) (now (out .entry)) .report .bytes) × (now (out .exit) ≡ filled (refusalFrame number text place) (now (out .entry)) .buffer) ⌝ }
 {
     if out.len() < 15 {
@@ -17,24 +20,106 @@ fn put_refusal(number: u64, text: u64, place: u64, out: &mut [u8]) -> usize
     writing::put_number_frame(out, 255, 6, n)
 }
 
-// What a reduction replied, printed: the pieces, which the buffer holds first, or one frame FF.
-fn print_pieces(r: station::CountReply, out: &mut [u8]) -> usize {
+// What was written and stands in the buffer's first bytes, or one frame FF.
+fn put_reply(r: station::CountReply, bytes: u64, out: &mut [u8]) -> usize
+    ensures { λ n. ⌜ (n ≡ replied r bytes (now (out .entry)) .report .bytes) × (now (out .exit) ≡ replied r bytes (now (out .entry)) .buffer) ⌝ }
+{
     if r.number == 0 {
-        return r.second as usize;
+        return bytes as usize;
     }
     put_refusal(r.number, r.text, r.place, out)
 }
 
 // The pieces of a deck of cards, or one frame FF.
 pub fn cards_pieces(text: &[u8], out: &mut [u8]) -> usize
-    ensures { λ r. ⌜ (r ≡ printedInto (readCards (now (text .entry))) (now (out .entry)) .report .bytes) × (now (out .exit) ≡ printedInto (readCards (now (text .entry))) (now (out .entry)) .buffer) ⌝ }
+    ensures { λ n. ⌜ (n ≡ printedInto (readCards (now (text .entry))) (now (out .entry)) .report .bytes) × (now (out .exit) ≡ printedInto (readCards (now (text .entry))) (now (out .entry)) .buffer) ⌝ }
 {
-    print_pieces(station::reduce_cards(text, out), out)
+    let r = station::reduce_cards(text, out);
+    let bytes = r.second;
+    put_reply(r, bytes, out)
 }
 
 // The pieces of a deck of frames, or one frame FF.
 pub fn frames_pieces(text: &[u8], out: &mut [u8]) -> usize
-    ensures { λ r. ⌜ (r ≡ printedInto (readDeck (now (text .entry))) (now (out .entry)) .report .bytes) × (now (out .exit) ≡ printedInto (readDeck (now (text .entry))) (now (out .entry)) .buffer) ⌝ }
+    ensures { λ n. ⌜ (n ≡ printedInto (readDeck (now (text .entry))) (now (out .entry)) .report .bytes) × (now (out .exit) ≡ printedInto (readDeck (now (text .entry))) (now (out .entry)) .buffer) ⌝ }
 {
-    print_pieces(station::reduce_frames(text, out), out)
+    let r = station::reduce_frames(text, out);
+    let bytes = r.second;
+    put_reply(r, bytes, out)
+}
+
+// A deck of cards as frames, or one frame FF.
+pub fn cards_deck(text: &[u8], out: &mut [u8]) -> usize
+    ensures { λ n. ⌜ (n ≡ deckPrintedInto (readCards (now (text .entry))) (now (out .entry)) .report .bytes) × (now (out .exit) ≡ deckPrintedInto (readCards (now (text .entry))) (now (out .entry)) .buffer) ⌝ }
+{
+    let r = station::write_cards(text, out);
+    let bytes = r.first;
+    put_reply(r, bytes, out)
+}
+
+// A deck of frames as frames, or one frame FF.
+pub fn frames_deck(text: &[u8], out: &mut [u8]) -> usize
+    ensures { λ n. ⌜ (n ≡ deckPrintedInto (readDeck (now (text .entry))) (now (out .entry)) .report .bytes) × (now (out .exit) ≡ deckPrintedInto (readDeck (now (text .entry))) (now (out .entry)) .buffer) ⌝ }
+{
+    let r = station::write_frames(text, out);
+    let bytes = r.first;
+    put_reply(r, bytes, out)
+}
+
+// The bytes of a size behind its set.
+fn size_bytes(size: u64) -> usize
+    ensures { λ n. ⌜ (n ≡ length (sizeText size)) × (n ≤ 4) ⌝ }
+{
+    if size < 10 {
+        return 3;
+    }
+    4
+}
+
+// A size in decimal behind a blank, and the end of its line.
+fn put_size(out: &mut [u8], size: u64)
+    requires { ⌜ length (sizeText size) ≤ length (now out) ⌝ }
+    ensures { λ _. ⌜ now (out .exit) ≡ splice 0 (sizeText size) (now (out .entry)) ⌝ }
+{
+    out[0] = 32;
+    if size < 10 {
+        out[1] = (48 + size) as u8;
+        out[2] = 10;
+        return;
+    }
+    out[1] = (48 + size / 10 % 10) as u8;
+    out[2] = (48 + size % 10) as u8;
+    out[3] = 10;
+}
+
+// A set in sixteen digits and its size, into a buffer that has room for them, and their length.
+fn put_cone(set: u64, size: u64, out: &mut [u8]) -> usize
+    ensures { λ n. ⌜ (n ≡ filled (coneLine set size) (now (out .entry)) .report .bytes) × (now (out .exit) ≡ filled (coneLine set size) (now (out .entry)) .buffer) ⌝ }
+{
+    let bytes = 16 + size_bytes(size);
+    if out.len() < bytes {
+        return 0;
+    }
+    writing::put_number(out, 8, set);
+    put_size(&mut out[16..], size);
+    bytes
+}
+
+// The cone of a set in a deck of frames and its size, or one frame FF.
+pub fn cone(text: &[u8], s: u64, out: &mut [u8]) -> usize
+    ensures { λ n. ⌜ (n ≡ conePrintedInto (readDeck (now (text .entry))) s (now (out .entry)) .report .bytes) × (now (out .exit) ≡ conePrintedInto (readDeck (now (text .entry))) s (now (out .entry)) .buffer) ⌝ }
+{
+    let r = station::cone(text, s);
+    if r.number != 0 {
+        return put_refusal(r.number, r.text, r.place, out);
+    }
+    put_cone(r.first, r.second, out)
+}
+
+// The verdict on a claim, as one frame FF.
+pub fn check<'a>(deck: &'a [u8], claim: &'a [u8], out: &mut [u8]) -> usize
+    ensures { λ n. ⌜ (n ≡ verdictInto (now (deck .entry)) (now (claim .entry)) (now (out .entry)) .report .bytes) × (now (out .exit) ≡ verdictInto (now (deck .entry)) (now (claim .entry)) (now (out .entry)) .buffer) ⌝ }
+{
+    let r = station::check(deck, claim);
+    put_refusal(r.number, r.text, r.place, out)
 }

@@ -1,22 +1,47 @@
-// How a program reads its text and writes its reply; a line on standard error says that it could not be written.
+// The program: the words of its command line, the texts that they name, and the reply. What is printed is printing's to
+// promise and explaining's to say; where nothing is printed, a message on standard error says what to do.
 ghost use Prim.Native.Nat.{_≤_};
+ghost use mathlib.Core.Path.{_≡_};
 ghost use lib.ListN.{length};
 ghost use Rattle.io.specs.Counts.{Counts};
 use libc::STDERR_FILENO;
 use libc::STDIN_FILENO;
 use libc::STDOUT_FILENO;
 
-// How many bytes were read, or that a read failed.
-pub struct Input {
-    pub failed: bool,
-    pub length: usize,
+// One byte more than a text may have: so many tell that it is too long.
+const ENOUGH: usize = decks::TEXT + 1;
+
+// How many bytes were read, or that they could not all be read.
+struct Input {
+    failed: bool,
+    length: usize,
+}
+
+// What is asked of one text.
+enum Asked {
+    Nothing,
+    CardsDeck,
+    FramesDeck,
+    CardsPieces,
+    FramesPieces,
+    CardsExplained,
+    FramesExplained,
+}
+
+// ---- texts
+
+// Room for them.
+fn room() -> [u8; ENOUGH]
+    ensures { λ r. ⌜ 64801 ≡ length r ⌝ }
+{
+    [0; ENOUGH]
 }
 
 // Reads once.
-fn read_some(text: &mut [u8]) -> Input
+fn read_some(fd: i32, text: &mut [u8]) -> Input
     ensures { λ r. ⌜ r .length ≤ length (now (text .exit)) ⌝ }
 {
-    let got = libc::read(STDIN_FILENO, text);
+    let got = libc::read(fd, text);
     let n = io::count(got, text);
     Input {
         failed: got < 0,
@@ -25,12 +50,12 @@ fn read_some(text: &mut [u8]) -> Input
 }
 
 // Reads until the text is full, the input ends or a read fails.
-pub fn read_input(text: &mut [u8]) -> Input
+fn read_input(fd: i32, text: &mut [u8]) -> Input
     ensures { λ r. ⌜ Counts (r .length) (now (text .exit)) ⌝ }
 {
     let mut at = 0;
     while at < text.len() {
-        let some = read_some(&mut text[at..]);
+        let some = read_some(fd, &mut text[at..]);
         if some.failed {
             return Input {
                 failed: true,
@@ -51,16 +76,354 @@ pub fn read_input(text: &mut [u8]) -> Input
     }
 }
 
+// Says that a text cannot be read, why, and what to do.
+fn say_unread(name: &[u8]) {
+    io::write_all(STDERR_FILENO, b"micaplume: cannot read ");
+    os::fail(name);
+    io::write_all(
+        STDERR_FILENO,
+        b"micaplume: name a file that can be opened and read, or give the text on standard input with - for its name\n",
+    );
+}
+
+// The text on standard input.
+fn read_standard(text: &mut [u8]) -> Input
+    ensures { λ r. ⌜ Counts (r .length) (now (text .exit)) ⌝ }
+{
+    let input = read_input(STDIN_FILENO, text);
+    if input.failed {
+        say_unread(b"standard input");
+    }
+    input
+}
+
+// No text.
+fn unread(text: &[u8]) -> Input
+    ensures { λ r. ⌜ Counts (r .length) (now (text .entry)) ⌝ }
+{
+    let n = io::count(0, text);
+    Input {
+        failed: true,
+        length: n,
+    }
+}
+
+// The text in a file.
+fn read_file(name: &[u8], text: &mut [u8]) -> Input
+    ensures { λ r. ⌜ Counts (r .length) (now (text .exit)) ⌝ }
+{
+    let fd = os::open_read(name);
+    if fd < 0 {
+        say_unread(name);
+        return unread(text);
+    }
+    let input = read_input(fd, text);
+    if input.failed {
+        say_unread(name);
+    }
+    libc::close(fd);
+    input
+}
+
+// ---- words
+
+// Whether two words are the same.
+fn same(a: &[u8], b: &[u8]) -> bool {
+    if a.len() != b.len() {
+        return false;
+    }
+    let mut i = 0;
+    while i < a.len() {
+        if a[i] != b[i] {
+            return false;
+        }
+        i += 1;
+    }
+    true
+}
+
+// Whether word i of the command line is this one.
+fn is_word(i: usize, word: &[u8]) -> bool {
+    let mut buffer = [0u8; 16];
+    let n = os::arg(i, &mut buffer);
+    if os::errno() != 0 {
+        return false;
+    }
+    same(&buffer[..n], word)
+}
+
+// The text that word i of the command line names.
+fn read_text(i: usize, text: &mut [u8]) -> Input
+    ensures { λ r. ⌜ Counts (r .length) (now (text .exit)) ⌝ }
+{
+    if is_word(i, b"-") {
+        return read_standard(text);
+    }
+    let mut name = io::buffer();
+    let n = os::arg(i, &mut name);
+    if os::errno() != 0 {
+        say_unread(b"a file with so long a name");
+        return unread(text);
+    }
+    read_file(&name[..n], text)
+}
+
+// The set that word i of the command line gives.
+fn read_set(i: usize) -> lines::Number {
+    let mut buffer = [0u8; 32];
+    let n = os::arg(i, &mut buffer);
+    lines::number_at(&buffer[..n], 0, 8)
+}
+
+// ---- replies
+
+// Says that a reply is not, or not wholly, written, and what to do.
+fn say_unwritten() {
+    io::write_all(
+        STDERR_FILENO,
+        b"micaplume: standard output cannot be written, so no reply counts; see where it leads and run again\n",
+    );
+}
+
 // Writes the first n bytes.
-pub fn write_reply(out: &[u8], n: usize) {
+fn write_reply(out: &[u8], n: usize) {
     if n <= out.len() {
         let is_written = io::write_all(STDOUT_FILENO, &out[..n]);
         if is_written {
             return;
         }
     }
+    say_unwritten();
+}
+
+// The commands, one a line.
+fn write_commands(fd: i32) -> bool {
+    io::write_all(
+        fd,
+        b"\
+micaplume                              cards on standard input: prints the pieces
+micaplume deck cards|frames FILE       prints the deck as frames
+micaplume pieces cards|frames FILE     prints the pieces
+micaplume cone FILE SET                prints the cone of a set in a deck of frames, and its size
+micaplume check DECK CLAIM             prints the verdict on a claimed run, both texts as frames
+micaplume explain cards|frames FILE    says in words what the deck comes to
+micaplume explain check DECK CLAIM     says in words what the claim comes to
+micaplume help                         prints these lines
+FILE, DECK and CLAIM are names of files; one of them may be - for standard input. SET is sixteen
+hexadecimal digits, bit i for Vi. A refusal is one frame FF: number, text, place.
+",
+    )
+}
+
+fn help() {
+    let is_written = write_commands(STDOUT_FILENO);
+    if !is_written {
+        say_unwritten();
+    }
+}
+
+// Says that the words of the command line are no command, and which are.
+fn say_wrong() {
     io::write_all(
         STDERR_FILENO,
-        b"micaplume: standard output cannot be written\n",
+        b"micaplume: these words are no command. Use one of:\n",
     );
+    write_commands(STDERR_FILENO);
+}
+
+// What is asked of a text, into a lent buffer, and how many bytes it takes.
+fn put_answer(asked: Asked, text: &[u8], out: &mut [u8]) -> usize {
+    match asked {
+        Asked::Nothing => 0,
+        Asked::CardsDeck => printing::cards_deck(text, out),
+        Asked::FramesDeck => printing::frames_deck(text, out),
+        Asked::CardsPieces => printing::cards_pieces(text, out),
+        Asked::FramesPieces => printing::frames_pieces(text, out),
+        Asked::CardsExplained => explaining::cards(text, out),
+        Asked::FramesExplained => explaining::frames(text, out),
+    }
+}
+
+fn answer(asked: Asked, text: &[u8]) {
+    let mut out = io::large_buffer();
+    let n = put_answer(asked, text, &mut out);
+    write_reply(&out, n);
+}
+
+// Cards on standard input: the pieces.
+pub fn standard() {
+    let mut text = room();
+    let input = read_standard(&mut text);
+    if input.failed {
+        return;
+    }
+    let n = input.length;
+    answer(Asked::CardsPieces, &text[..n]);
+}
+
+// A command on the text that word 3 names.
+fn on_text(asked: Asked) {
+    let mut text = room();
+    let input = read_text(3, &mut text);
+    if input.failed {
+        return;
+    }
+    let n = input.length;
+    answer(asked, &text[..n]);
+}
+
+// The cone of a set in a deck of frames.
+fn answer_cone(text: &[u8], set: u64) {
+    let mut out = io::large_buffer();
+    let n = printing::cone(text, set, &mut out);
+    write_reply(&out, n);
+}
+
+fn on_cone() {
+    let lines::Number::Good(set) = read_set(3) else {
+        io::write_all(
+            STDERR_FILENO,
+            b"micaplume: give the set as sixteen digits 0 to 9 and A to F, bit i for Vi: 0000000000000005 is V0 and V2\n",
+        );
+        return;
+    };
+    let mut text = room();
+    let input = read_text(2, &mut text);
+    if input.failed {
+        return;
+    }
+    let n = input.length;
+    answer_cone(&text[..n], set);
+}
+
+// The verdict on a claim, in words or as a frame.
+fn put_verdict<'a>(explained: bool, deck: &'a [u8], claim: &'a [u8], out: &mut [u8]) -> usize {
+    if explained {
+        return explaining::check(deck, claim, out);
+    }
+    printing::check(deck, claim, out)
+}
+
+fn answer_check<'a>(explained: bool, deck: &'a [u8], claim: &'a [u8]) {
+    let mut out = io::large_buffer();
+    let n = put_verdict(explained, deck, claim, &mut out);
+    write_reply(&out, n);
+}
+
+// The deck that word i names, and the claim that word j names.
+fn on_claim(explained: bool, i: usize, j: usize) {
+    if is_word(i, b"-") {
+        if is_word(j, b"-") {
+            io::write_all(
+                STDERR_FILENO,
+                b"micaplume: deck and claim cannot both be read from standard input; name a file for one of them\n",
+            );
+            return;
+        }
+    }
+    let mut deck = room();
+    let first = read_text(i, &mut deck);
+    if first.failed {
+        return;
+    }
+    let mut claim = room();
+    let second = read_text(j, &mut claim);
+    if second.failed {
+        return;
+    }
+    let n = first.length;
+    let m = second.length;
+    answer_check(explained, &deck[..n], &claim[..m]);
+}
+
+// ---- commands
+
+// What the first word asks of cards.
+fn asked_of_cards() -> Asked {
+    if is_word(1, b"deck") {
+        return Asked::CardsDeck;
+    }
+    if is_word(1, b"pieces") {
+        return Asked::CardsPieces;
+    }
+    if is_word(1, b"explain") {
+        return Asked::CardsExplained;
+    }
+    Asked::Nothing
+}
+
+// What the first word asks of frames.
+fn asked_of_frames() -> Asked {
+    if is_word(1, b"deck") {
+        return Asked::FramesDeck;
+    }
+    if is_word(1, b"pieces") {
+        return Asked::FramesPieces;
+    }
+    if is_word(1, b"explain") {
+        return Asked::FramesExplained;
+    }
+    Asked::Nothing
+}
+
+// What the first two words ask of a text.
+fn wanted() -> Asked {
+    if is_word(2, b"cards") {
+        return asked_of_cards();
+    }
+    if is_word(2, b"frames") {
+        return asked_of_frames();
+    }
+    Asked::Nothing
+}
+
+// A command of three words.
+fn three_words() {
+    if is_word(1, b"cone") {
+        on_cone();
+        return;
+    }
+    if is_word(1, b"check") {
+        on_claim(false, 2, 3);
+        return;
+    }
+    match wanted() {
+        Asked::Nothing => say_wrong(),
+        a => on_text(a),
+    }
+}
+
+// A command of four words.
+fn four_words() {
+    if is_word(1, b"explain") {
+        if is_word(2, b"check") {
+            on_claim(true, 3, 4);
+            return;
+        }
+    }
+    say_wrong();
+}
+
+// The command that the words of the command line are.
+pub fn run() {
+    let words = os::arg_count();
+    if words < 2 {
+        standard();
+        return;
+    }
+    if words == 2 {
+        if is_word(1, b"help") {
+            help();
+            return;
+        }
+    }
+    if words == 4 {
+        three_words();
+        return;
+    }
+    if words == 5 {
+        four_words();
+        return;
+    }
+    say_wrong();
 }

@@ -1,40 +1,32 @@
 use borrow.Author.Needs.{needs}
-use Rattle.station.proofs.put_refusal.Statement.{statement}
-use Rattle.station.proofs.put_refusal.Tie as tie
-use Rattle.station.proofs.put_refusal.Reads as reads
-use Rattle.station.proofs.put_refusal.Lts as lts
-use Rattle.station.proofs.PrintLaws as laws
+use Rattle.printing.proofs.PrintLaws as laws
+use Rattle.printing.proofs.put_refusal.Statement.{statement}
+use Rattle.printing.proofs.put_refusal.Tie as tie
+use Rattle.printing.proofs.put_refusal.Reads as reads
+use Rattle.printing.proofs.put_refusal.Lts as lts
 use Rattle.writing.proofs.put_number_frame.Reads as put-number-frame-reads
 
--- src/lib.rt:255:9
 returns : tie.Need-returns
 returns c = laws.no-refusal _ _ _ _ (c .if1 .taken)
 
--- src/lib.rt:257:13
 mul-n : tie.Need-mul-n
 mul-n c = search needs
 
--- src/lib.rt:257:44
 mul-n-2 : tie.Need-mul-n-2
 mul-n-2 c = search needs
 
--- src/lib.rt:257:13
 add-n : tie.Need-add-n
 add-n c = search needs
 
--- src/lib.rt:257:13
 add-n-2 : tie.Need-add-n-2
 add-n-2 c = search needs
 
--- src/lib.rt:258:5
 put-number-frame-requires : tie.Need-put-number-frame-requires
 put-number-frame-requires c κs = search needs
 
--- src/lib.rt:251:1
 same-length : tie.Need-same-length
 same-length c = search needs
 
--- src/lib.rt:251:1
 returns-2 : tie.Need-returns-2
 returns-2 c = let put = c .before .before .put-number-frame .ensures in laws.refusal-put _ _ _ _ _ _ (c .before .before .before .before .if1 .left) (put .0) (put .1)
 

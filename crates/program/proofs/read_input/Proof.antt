@@ -8,10 +8,10 @@ use Rattle.program.proofs.read_input.Statement.{statement}
 use Rattle.program.proofs.read_input.Tie as tie
 
 abbrev Inv-loop : tie.InvT-loop
-Inv-loop text₀ at₀ text at = (length text ≡ length text₀) × (at ≤ length text)
+Inv-loop fd text₀ at₀ text at = (length text ≡ length text₀) × (at ≤ length text)
 
 abbrev μ-loop : tie.MeasureT-loop
-μ-loop text₀ at₀ text at = length text₀ - at
+μ-loop fd text₀ at₀ text at = length text₀ - at
 
 loop-holds : tie.Need-loop-holds Inv-loop μ-loop
 loop-holds c = search needs

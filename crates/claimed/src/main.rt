@@ -1,0 +1,4 @@
+// The program's verdict on a claim.
+fn main() {
+    program::run();
+}

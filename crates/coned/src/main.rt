@@ -1,0 +1,4 @@
+// The program's cone of a set.
+fn main() {
+    program::run();
+}

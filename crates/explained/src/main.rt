@@ -1,0 +1,4 @@
+// The program's words on a deck that was refused.
+fn main() {
+    program::run();
+}

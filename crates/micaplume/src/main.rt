@@ -1,0 +1,4 @@
+// The command that its words are: see program.
+fn main() {
+    program::run();
+}
