@@ -254,29 +254,28 @@ static void to_frames(struct text *cards)
     *cards = frames;
 }
 
-/* All operations on the deck of cards in job.one. */
-static void measure_deck(const char *input, uint64_t set)
+static void measure_as(enum operation operation, const char *input)
 {
+    job.operation = operation;
     job.input = input;
-    job.set = set;
-    job.operation = WRITE_CARDS;
-    measure(&job);
-    job.operation = REDUCE_CARDS;
-    measure(&job);
-    to_frames(&job.one);
-    job.operation = WRITE_FRAMES;
-    measure(&job);
-    job.operation = REDUCE_FRAMES;
-    measure(&job);
-    job.operation = CONE;
     measure(&job);
 }
 
-static void measure_claim(const char *input)
+static void measure_cards(const char *input)
 {
-    job.input = input;
-    job.operation = CHECK;
-    measure(&job);
+    measure_as(WRITE_CARDS, input);
+    measure_as(REDUCE_CARDS, input);
+}
+
+/* All operations on the deck of cards in job.one. */
+static void measure_deck(const char *input, uint64_t set)
+{
+    measure_cards(input);
+    to_frames(&job.one);
+    measure_as(WRITE_FRAMES, input);
+    measure_as(REDUCE_FRAMES, input);
+    job.set = set;
+    measure_as(CONE, input);
 }
 
 /* The first piece of the worked deck. */
@@ -305,7 +304,7 @@ static void measure_all(void)
     measure_deck("all limits", 1);
     limits_deck(&job.one);
     fill_with_comments(&job.one, TEXT_MOST);
-    measure_deck("all limits, 64,800", 1);
+    measure_cards("all limits, comments");
     conjuncts_deck(&job.one);
     measure_deck("64 conjuncts", 1);
     for (size_t i = 0; i < sizeof chain / sizeof chain[0]; i++) {
@@ -314,17 +313,61 @@ static void measure_all(void)
     }
     first_piece(&job.one);
     worked_claim(&job.two);
-    measure_claim("worked claim");
+    measure_as(CHECK, "worked claim");
     for (size_t i = 0; i < sizeof claim / sizeof claim[0]; i++) {
         limits_deck(&job.one);
         to_frames(&job.one);
         limits_claim(&job.two, claim[i].size);
-        measure_claim(claim[i].name);
+        measure_as(CHECK, claim[i].name);
+    }
+}
+
+/* ---- Time over length ---- */
+
+/* The times on a text, and from the second length on the nanoseconds that each
+   byte more took. */
+static void measure_length(const char *what, bool first)
+{
+    static size_t size_before;
+    static double library_before, reference_before;
+    struct times t = compare(&job);
+    size_t size = job.one.length + (job.operation == CHECK ? job.two.length : 0);
+    printf("%-37s %6zu %10.2f %10.2f", what, size, 1e6 * t.library, 1e6 * t.reference);
+    if (!first) {
+        double more = (double)(size - size_before);
+        printf(" %13.2f %13.2f", 1e9 * (t.library - library_before) / more,
+               1e9 * (t.reference - reference_before) / more);
+    }
+    printf("\n");
+    fflush(stdout);
+    size_before = size;
+    library_before = t.library;
+    reference_before = t.reference;
+}
+
+/* The same deck in longer and longer texts, and longer and longer claims. */
+static void measure_lengths(void)
+{
+    printf("\n%-37s %6s %10s %10s %13s %13s\n", "text", "bytes", "library us", "ref. us", "ns, byte more",
+           "ref.");
+    job.operation = WRITE_CARDS;
+    for (size_t bytes = TEXT_MOST / 8; bytes <= TEXT_MOST; bytes *= 2) {
+        worked_deck(&job.one);
+        fill_with_comments(&job.one, bytes);
+        measure_length("write cards, worked deck, comments", bytes == TEXT_MOST / 8);
+    }
+    empty_deck(&job.one);
+    to_frames(&job.one);
+    job.operation = CHECK;
+    for (unsigned states = 128; states <= 1024; states *= 2) {
+        empty_claim(&job.two, states);
+        measure_length("check, claims without variables", states == 128);
     }
 }
 
 int main(void)
 {
     measure_all();
+    measure_lengths();
     return failures != 0;
 }

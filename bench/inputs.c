@@ -211,6 +211,15 @@ void chain_deck(struct text *cards, unsigned variables)
     statement(cards, "END");
 }
 
+void empty_deck(struct text *cards)
+{
+    cards->length = 0;
+    statement(cards, "VARS 0");
+    statement(cards, "INIT");
+    statement(cards, "PROP 0");
+    statement(cards, "END");
+}
+
 void fill_with_comments(struct text *cards, size_t bytes)
 {
     static const char comment[] =
@@ -250,6 +259,15 @@ void worked_claim(struct text *claim)
     frame(claim, 0x12, 8, 1);
     frame(claim, 0x12, 8, 2);
     frame(claim, 0x15, 2, 4);
+}
+
+void empty_claim(struct text *claim, unsigned states)
+{
+    claim->length = 0;
+    frame(claim, 0x11, 4, states);
+    for (unsigned i = 0; i < states; i++)
+        frame(claim, 0x12, 8, 0);
+    frame(claim, 0x15, 2, 1 + (uint64_t)states);
 }
 
 static bool in(uint64_t state, unsigned v)

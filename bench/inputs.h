@@ -26,4 +26,9 @@ void fill_with_comments(struct text *cards, size_t bytes);
 void worked_claim(struct text *claim);
 void limits_claim(struct text *claim, unsigned states);
 
+/* A deck of cards without variables, and as frames a claim on it of so many
+   states. */
+void empty_deck(struct text *cards);
+void empty_claim(struct text *claim, unsigned states);
+
 #endif
