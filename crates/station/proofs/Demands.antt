@@ -7,7 +7,7 @@ use native.Mathlib.Omega.{arith}
 use lib.ListN.{length, take, drop}
 use Rattle.lists.specs.Lists.{Each, Some, _among_, splice}
 use Rattle.sets.specs.Sets.{_⊆_, size}
-use Rattle.logic.specs.Expressions.{Expr, written}
+use Rattle.logic.specs.Expressions.{written}
 use Rattle.logic.specs.Decks.{Deck, Accepted, base}
 use Rattle.logic.specs.Meaning.{Claim, Holds, RunOf, Breaks, Broken, ClaimStep, claimRun, stateOf}
 use Rattle.logic.specs.Cones.{IsCone}
@@ -15,12 +15,11 @@ use Rattle.logic.specs.Pieces.{split, pieces}
 use Rattle.logic.specs.Verdicts.{Verdict, Breaking, NotInitial as NotInitialState, NoStep as NoSuchStep, Holding as HoldingProperty, verdict}
 use Rattle.logic.proofs.Cone.{cone-is}
 use Rattle.logic.proofs.Verdict.{accepted-exactly-when, refused-20-exactly-when, refused-21-exactly-when, refused-22-exactly-when}
-use Rattle.decks.specs.declared.Answer.{Answer}
 use Rattle.decks.specs.declared.Reply.{Reply}
-use Rattle.decks.specs.Answers.{Outcome, Got, Refused, replyOf}
+use Rattle.decks.specs.Answers.{Outcome, Got, replyOf}
 use Rattle.decks.specs.Stored.{stored, blank}
 use Rattle.frames.specs.Written.{deckFrames}
-use Rattle.frames.specs.Read.{readDeck, readClaim}
+use Rattle.frames.specs.Read.{readDeck}
 use Rattle.frames.proofs.DeckTheorems.{deck-written-read, deck-read-written, deck-read-accepted}
 use Rattle.frames.proofs.ClaimTheorems.{claim-read-sized}
 use Rattle.cards.specs.Card.{cardsOf, Open, inForm}

@@ -1,11 +1,10 @@
 -- Every refusal of a text of cards has a number, and names a place within the text.
-use mathlib.Core.Path.{_≡_, refl}
-use mathlib.Core.Bool.{Bool, true, false, not, _&&_}
-use mathlib.Core.List.{List, [], _∷_, _++_}
+use mathlib.Core.Bool.{true, false, not, _&&_}
+use mathlib.Core.List.{List, [], _∷_}
 use mathlib.Core.Option.{Option, none, some}
-use Prim.Native.Nat.{ℕ, zero, suc, _+_, _<_, _≤_}
+use Prim.Native.Nat.{ℕ, suc, _+_, _≤_}
 use native.Mathlib.Omega.{arith}
-use lib.Dec.{ltb, eqb, lit≤}
+use lib.Dec.{ltb, lit≤}
 use lib.ListN.{length, length-append}
 use Rattle.lists.specs.Lists.{Each, ended, unended}
 use Rattle.lists.specs.Texts.{bytes}
@@ -13,7 +12,7 @@ use Rattle.sets.specs.Sets.{has, inside}
 use Rattle.logic.specs.Expressions.{Expr, nodes, written, temporal}
 use Rattle.logic.specs.Decks.{Equation, Deck, base, totalNodes}
 use Rattle.decks.specs.declared.Answer.{Answer}
-use Rattle.decks.specs.declared.Answer.the-variants.{TooLong, BadByte, TooWide, BadStart, BadNumber, NoneOpen, TooManyCards, NotDue, Outside, Temporal, TooDeep, ManyInitials, ManyEquations, ManyNodes}
+use Rattle.decks.specs.declared.Answer.the-variants.{BadByte, TooWide, BadStart, BadNumber, TooManyCards, NotDue, Outside, Temporal, TooDeep, ManyInitials, ManyEquations, ManyNodes}
 use Rattle.decks.specs.Answers.{Outcome, Got, Refused, refuse, afterwards}
 use Rattle.decks.specs.Readings.{Reading, Whole, Wrong, Deep, walk, complete}
 use Rattle.cards.specs.Card.{cardsOf, lastCard, cardColumns, continuations, columns, every, isBlank, printable, Kind, Comment, Empty, Opening, Continuing, closes, isComment, kindOf, numbered, Open, Shut, Continued, opened, cardInForm, inForm}

@@ -3,7 +3,7 @@ use mathlib.Core.Path.{_≡_, refl}
 use mathlib.Core.Bool.{Bool, true, false, not}
 use mathlib.Core.List.{List, [], _∷_}
 use mathlib.Core.Option.{Option, none, some}
-use Prim.Native.Nat.{ℕ, suc, _+_, _/_, _%_, _≤_}
+use Prim.Native.Nat.{ℕ, _+_, _/_, _%_, _≤_}
 use native.Mathlib.Omega.{arith}
 use lib.Dec.{ltb, eqb, lit≤}
 use lib.ListN.{length, drop}
@@ -12,9 +12,8 @@ use Rattle.sets.specs.Sets.{has, inside}
 use Rattle.logic.specs.Expressions.{Expr, nodes, written, temporal}
 use Rattle.logic.specs.Decks.{Equation, Deck, base, totalNodes}
 use Rattle.logic.specs.Meaning.{Claim}
-use Rattle.decks.specs.declared.Answer.{Answer}
-use Rattle.decks.specs.declared.Answer.the-variants.{TooLong, Outside, Temporal, TooDeep, ManyInitials, ManyEquations, ManyNodes, BadFrame}
-use Rattle.decks.specs.Answers.{Outcome, Got, Refused, refuse, afterwards}
+use Rattle.decks.specs.declared.Answer.the-variants.{Outside, Temporal, TooDeep, ManyInitials, ManyEquations, ManyNodes, BadFrame}
+use Rattle.decks.specs.Answers.{Outcome, Got, Refused}
 use Rattle.frames.specs.Hex.{byteOf, number}
 use Rattle.frames.specs.Written.{setBytes, setKind, initKind, equationKind, propertyKind, claimKind, stateKind, claimCountKind}
 use Rattle.frames.specs.Read.{readExpr, wholeExpr, wholeNumber, kindOf, Due, DueSet, DueInit, DueAny, DueEquation, DueCount, DueNone, Sofar, begun, setLine, initLine, lastLeft, withEquation, equationLine, propertyLine, countLine, permits, frameLine, deckLine, deckEnd, readDeck, ClaimSofar, ClaimDue, StatesDue, ClaimWhole, sizesLine, stateLine, claimLine, claimEnd, readClaim}

@@ -1,7 +1,7 @@
 -- Laws of the operations: what they may rely on where a deck was read, and one law for each way that they return.
 use mathlib.Core.Path.{_≡_, refl, sym, ap, _∙_, subst}
 use mathlib.Core.List.{List, [], _∷_}
-use Prim.Native.Nat.{ℕ, zero, suc, _+_, _-_, _*_, _%_, _<_, _≤_}
+use Prim.Native.Nat.{ℕ, zero, suc, _+_, _-_, _<_, _≤_}
 use native.Mathlib.Omega.{arith}
 use lib.ListN.{length, take, set, replicate, length-replicate}
 use lib.Seq.{length-take-le}
@@ -16,7 +16,7 @@ use Rattle.decks.specs.declared.Deck.{Deck as Stored}
 use Rattle.decks.specs.declared.DeckRead.{DeckRead}
 use Rattle.decks.specs.declared.ClaimRead.{ClaimRead}
 use Rattle.decks.specs.Answers.{Outcome, Got, Refused, replyOf}
-use Rattle.decks.specs.Stored.{stored, blank, deckRead, claimRead}
+use Rattle.decks.specs.Stored.{stored, deckRead, claimRead}
 use Rattle.texts.specs.declared.Written.{Written}
 use Rattle.texts.specs.Texts.{deckWritten}
 use Rattle.cones.specs.declared.ConeRead.{ConeRead}

@@ -1,8 +1,8 @@
 -- Number, text and place of every reply fit the word that is exported.
-use mathlib.Core.Path.{_≡_, refl, sym, ap, _∙_, subst}
+use mathlib.Core.Path.{_≡_, refl, sym, ap, subst}
 use mathlib.Core.Logic.{⊎-elim, by-cases}
 use mathlib.Core.List.{List}
-use Prim.Native.Nat.{ℕ, _+_, _/_, _%_, _^_, _<_, _≤_}
+use Prim.Native.Nat.{ℕ, _/_, _%_, _^_, _<_}
 use native.Mathlib.Omega.{arith}
 use lib.Dec.{lit<}
 use lib.ListN.{length}
@@ -15,7 +15,7 @@ use Rattle.logic.specs.Meaning.{Claim, Sized}
 use Rattle.logic.specs.Verdicts.{Verdict, Breaking, NotInitial as NotInitialState, NoStep as NoSuchStep, Holding as HoldingProperty, verdict}
 use Rattle.logic.proofs.Verdict.{refused-21-exactly-when}
 use Rattle.decks.specs.declared.Answer.{Answer}
-use Rattle.decks.specs.declared.Answer.the-variants.{Fine, Outside, NoRoom, NotInitial, NoStep, Holding}
+use Rattle.decks.specs.declared.Answer.the-variants.{Fine, NoRoom}
 use Rattle.decks.specs.declared.Reply.{Reply}
 use Rattle.decks.specs.Answers.{Outcome, Got, Refused, replyOf}
 use Rattle.frames.specs.Written.{deckFrames}
@@ -24,12 +24,11 @@ use Rattle.frames.proofs.DeckTheorems.{deck-read-accepted}
 use Rattle.frames.proofs.ClaimTheorems.{claim-read-sized}
 use Rattle.cards.specs.Read.{readCards}
 use Rattle.cards.proofs.NothingDropped.{cards-accepted}
-use Rattle.texts.specs.Texts.{Filled, filled}
+use Rattle.texts.specs.Texts.{Filled}
 use Rattle.cones.specs.declared.ConeRead.{ConeRead}
-use Rattle.cones.specs.Cone.{coneRead}
 use Rattle.cones.proofs.Answers.{read-cone, read-outside}
 use Rattle.pieces.specs.declared.Reduced.{Reduced}
-use Rattle.pieces.specs.Reduced.{pieceBytes, reduced}
+use Rattle.pieces.specs.Reduced.{pieceBytes}
 use Rattle.claims.specs.Checked.{verdictAnswer, claimChecked, deckChecked, checked}
 use Rattle.station.specs.declared.CountReply.{CountReply}
 use Rattle.station.specs.Promises.{writeReply, reduceReply, coneReply}

@@ -19,7 +19,7 @@ use Rattle.logic.specs.Verdicts.{Verdict, Breaking, NotInitial as NotInitialSta
 use Rattle.decks.specs.declared.Answer.{Answer}
 use Rattle.decks.specs.declared.Answer.the-variants.{Fine, TooLong, BadByte, TooWide, BadStart, BadNumber, NoneOpen, TooManyCards, NotDue, Outside, Temporal, TooDeep, ManyInitials, ManyEquations, ManyNodes, NoEquation, BadFrame, NoRoom, NotInitial, NoStep, Holding}
 use Rattle.decks.specs.Answers.{Outcome, Got, Refused, replyOf}
-use Rattle.decks.specs.Stored.{stored, blank}
+use Rattle.decks.specs.Stored.{blank}
 use Rattle.frames.specs.Written.{deckFrames}
 use Rattle.frames.specs.Read.{readDeck, readClaim}
 use Rattle.texts.specs.Texts.{Filled, filled, deckWritten}
@@ -29,9 +29,7 @@ use Rattle.cones.proofs.Answers.{read-cone, read-outside}
 use Rattle.claims.specs.Checked.{verdictAnswer, claimChecked, deckChecked, checked}
 use Rattle.pieces.specs.declared.Reduced.{Reduced}
 use Rattle.pieces.specs.Reduced.{pieceBytes, reduced, reducedInto}
-use Rattle.station.specs.declared.DeckReply.{DeckReply}
-use Rattle.station.specs.declared.CountReply.{CountReply}
-use Rattle.station.specs.Promises.{deckReply, countReply, readReply, writeReply, writeBuffer, reduceReply, reduceBuffer, coneReply}
+use Rattle.station.specs.Promises.{readReply, writeReply, writeBuffer, reduceReply, reduceBuffer, coneReply}
 use Rattle.station.proofs.Numbered.{OfText, Numbered, fault}
 use Rattle.station.proofs.NumberedFrames.{deck-numbered, claim-numbered}
 

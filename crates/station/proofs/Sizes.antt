@@ -1,9 +1,9 @@
 -- The lengths of a buffer that always suffice: for a deck, and for all its pieces.
 use mathlib.Core.Path.{_≡_, refl, sym, ap, _∙_}
 use mathlib.Core.List.{List, [], _∷_, _++_, map}
-use Prim.Native.Nat.{ℕ, _+_, _*_, _<_, _≤_}
+use Prim.Native.Nat.{ℕ, _+_, _*_, _≤_}
 use native.Mathlib.Omega.{arith}
-use lib.ListN.{length, length-append}
+use lib.ListN.{length, length-append, length-map}
 use Rattle.lists.specs.Lists.{Each}
 use Rattle.logic.specs.Expressions.{Expr, Const, Var, One, Two, And, Or, Until, Weak, nodes}
 use Rattle.logic.specs.Decks.{Deck, Accepted, base}
@@ -15,6 +15,7 @@ use Rattle.frames.specs.Read.{readDeck}
 use Rattle.frames.proofs.DeckTheorems.{deck-read-accepted}
 use Rattle.frames.proofs.SizeLaws.{length-deck-frames}
 use Rattle.pieces.specs.Reduced.{allFrames, pieceBytes}
+use Rattle.pieces.proofs.All.{count-few}
 use Rattle.cards.specs.Read.{readCards}
 use Rattle.cards.proofs.NothingDropped.{cards-accepted}
 use Rattle.station.specs.declared.CountReply.{CountReply}
@@ -54,22 +55,6 @@ split-nodes (Two Or a b) = omega arith
 split-nodes (Two Until a b) = omega arith
 split-nodes (Two Weak a b) = omega arith
 
-nodes-some : (e : Expr) → 1 ≤ nodes e
-unfolding nodes
-nodes-some (Const b) = omega arith
-nodes-some (Var v) = omega arith
-nodes-some (One o a) = omega arith
-nodes-some (Two o a b) = omega arith
-
-as-many-nodes : (es : List Expr) → length es ≤ nodesOf es
-unfolding nodesOf
-as-many-nodes [] = omega arith
-as-many-nodes (e ∷ es) = omega (arith, nodes-some e, as-many-nodes es)
-
-length-properties : (ds : List Deck) → length (map (λ (d : Deck). d .property) ds) ≡ length ds
-length-properties [] = refl
-length-properties (d ∷ ds) = omega (arith, length-properties ds)
-
 all-most : (ds : List Deck) → Each (Accepted base) ds → length (allFrames ds) ≤ 6621 * length ds + 2 * nodesOf (map (λ (d : Deck). d .property) ds)
 unfolding allFrames nodesOf
 all-most [] ok = omega arith
@@ -81,11 +66,11 @@ pieces-most d ok =
     omega (
       arith,
       all-most (pieces d) (pieces-accepted base d ok),
-      length-properties (pieces d),
+      length-map (pieces d) (λ (q : Deck). q .property),
       ap length (pieces-split d),
       ap nodesOf (pieces-split d),
       split-nodes (d .property),
-      as-many-nodes (split (d .property)),
+      count-few d ok,
       ok .property-nodes,
     )
 

@@ -1,6 +1,5 @@
 -- Document 01's "One deck to the end": every line marked (P), over the bytes of the texts.
-use mathlib.Core.Path.{_≡_, refl}
-use mathlib.Core.Bool.{true, false}
+use mathlib.Core.Path.{refl}
 use mathlib.Core.List.{List, [], _∷_, _++_, map}
 use Prim.Native.Nat.{ℕ, _+_, _-_}
 use Prim.Native.String.{String}
@@ -29,7 +28,6 @@ use Rattle.texts.specs.Texts.{filled}
 use Rattle.cones.specs.Cone.{coneRead}
 use Rattle.pieces.specs.Reduced.{allFrames, reduced, reducedInto}
 use Rattle.claims.specs.Checked.{checked}
-use Rattle.station.specs.declared.CountReply.{CountReply}
 use Rattle.station.specs.Promises.{countReply, WritesCards, ReducesCards, FindsCone, ChecksClaim}
 
 -- ---- lines of the table
