@@ -1,47 +1,48 @@
 -- Laws of the walk from statement to statement.
 use mathlib.Core.Path.{_≡_, refl, sym, ap, _∙_, subst}
-use mathlib.Core.Bool.{true, false, not}
-use mathlib.Core.List.{List, [], _∷_}
-use Prim.Native.Nat.{ℕ, suc, _-_, _<_, _≤_}
+use mathlib.Core.Bool.{Bool, true, false, not}
+use mathlib.Core.List.{List, [], _∷_, _++_, append-nil}
+use Prim.Native.Nat.{ℕ, suc, _+_, _-_, _<_, _≤_}
 use native.Mathlib.Nat.{sub-zero}
 use native.Mathlib.Omega.{arith}
 use lib.ListN.{length, take, drop, getD, replicate, length-append, drop-of-length-le}
-use borrow.Author.Tests.{not-true, not-false}
+use lib.Seq.{take-all}
+use borrow.Author.Tests.{not-false}
 use Rattle.lists.specs.Lists.{padded, firsts, ended, unended}
-use Rattle.lists.proofs.Laws.{padded-nil, take-padded}
+use Rattle.lists.proofs.Laws.{padded-nil, take-padded, keep-append, keep-none, each-replicate}
 use Rattle.logic.specs.Decks.{totalNodes}
 use Rattle.decks.specs.declared.Answer.the-variants.{Fine}
 use Rattle.decks.specs.Answers.{Outcome, Got, Refused}
 use Rattle.decks.specs.Readings.{walk}
 use Rattle.decks.specs.Stored.{endsOf, codes}
 use Rattle.decks.proofs.Outcomes.{walk-got, walk-refused}
-use Rattle.cards.specs.Card.{cardsOf}
-use Rattle.cards.specs.Statement.{Statement, Nothing, gathered, statementsOf, inked}
+use Rattle.cards.specs.Card.{blank, isBlank, fieldStart, fieldEnd, cardsOf}
+use Rattle.cards.specs.Statement.{Statement, Nothing, gathered, statementsOf, fieldOf, inked}
 use Rattle.cards.specs.Read.{Sofar, begun, dueStatement, statementRead}
 use Rattle.grammar.specs.Ahead.{ahead}
+use Rattle.firstpass.proofs.Laws.{field-filled}
 use Rattle.statements.specs.declared.Stmt.{Stmt}
+use Rattle.statements.specs.declared.Place.{Place}
 use Rattle.statements.specs.declared.Taken.{Taken}
-use Rattle.statements.specs.Hold.{stmtOf, Takes}
-use Rattle.statements.proofs.Laws.{found-first, found-none}
+use Rattle.statements.specs.Hold.{stmtOf, continued, Placed, AtOpening, Takes}
+use Rattle.statements.proofs.Laws.{found-first, field-short, alone, place-on, behind-formed, one-taken, stands-alone}
 use Rattle.cardlines.specs.declared.Held.{Held}
 use Rattle.cardlines.specs.declared.StatementRead.{StatementRead}
 use Rattle.cardlines.specs.Held.{heldOf, Small, Lengths, Holds, Came}
+use Rattle.cardreading.specs.declared.Step.{Step}
 use Rattle.cardreading.specs.Finished.{Empty}
+use Rattle.cardreading.specs.Stepped.{Rows, following, Stepped}
 
 -- What all statements of the text come to.
 abbrev pub whole : List ℕ → Outcome Sofar
 whole text = walk statementRead 1 (statementsOf (cardsOf text)) begun
 
--- The statements from place at on, where card n begins.
-abbrev pub following : List ℕ → ℕ → ℕ → List Statement
-following text at n = gathered n (cardsOf (drop at text)) Nothing
-
--- The statements before place at, where card n begins, are read: what they came to, what is held of it, and what the whole comes to from there on.
-pub record Walked (text : List ℕ) (at n : ℕ) (held : Held) (inits lefts ends nodes property : List ℕ) : Type 0 where
+-- The statements before a place are read: what they came to, what is held of it, and what the whole comes to from there on.
+pub record Walked (text : List ℕ) (p : Place) (held : Held) (inits lefts ends nodes property : List ℕ) : Type 0 where
   pub sofar : Sofar
   pub holds : Holds sofar held inits lefts ends nodes property
   pub next : ℕ
-  pub rest-is : whole text ≡ walk statementRead next (following text at n) sofar
+  pub rest-is : whole text ≡ walk statementRead next (following text (p .at) (p .n)) sofar
 
 -- Arrays as long as those at the start.
 pub record SameLengths (inits₀ scratch₀ lefts₀ ends₀ nodes₀ property₀ inits scratch lefts ends nodes property : List ℕ) : Type 0 where
@@ -55,9 +56,9 @@ pub record SameLengths (inits₀ scratch₀ lefts₀ ends₀ nodes₀ property�
 -- ---- before the first
 
 module _ (inits scratch lefts ends nodes property : List ℕ) (e : Empty inits scratch lefts ends nodes property) where
-  pub walked-begun : (text : List ℕ) (held : Held) → held ≡ heldOf begun 0 → Walked text 0 1 held inits lefts ends nodes property
+  pub walked-begun : (text : List ℕ) (p : Place) (held : Held) → AtOpening text 0 1 p → held ≡ heldOf begun 0 → Walked text p held inits lefts ends nodes property
   unfolding firsts endsOf codes
-  walked-begun text held h =
+  walked-begun text p held a h =
       record {
         sofar = begun;
         holds = record {
@@ -67,8 +68,18 @@ module _ (inits scratch lefts ends nodes property : List ℕ) (e : Empty inits s
           property-is = tt;
         };
         next = 1;
-        rest-is = refl;
+        rest-is = ap (λ (ss : List Statement). walk statementRead 1 ss begun) (a .same);
       }
+
+  module _ (inits′ scratch′ lefts′ ends′ nodes′ property′ : List ℕ) where
+    pub rows-there : SameLengths inits scratch lefts ends nodes property inits′ scratch′ lefts′ ends′ nodes′ property′ → Rows inits′ scratch′ lefts′ ends′ nodes′ property′
+    rows-there l =
+        record {
+          inits-long = l .inits-same ∙ ap length (e .inits-zero);
+          scratch-long = l .scratch-same ∙ e .scratch-long;
+          equations-long = record { lefts-long = l .lefts-same ∙ ap length (e .lefts-zero); ends-long = l .ends-same ∙ ap length (e .ends-zero); nodes-long = l .nodes-same ∙ ap length (e .nodes-zero) };
+          property-long = l .property-same ∙ e .property-long;
+        }
 
 pub begun-small : (h : Held) → h ≡ heldOf begun 0 → Small h
 unfolding firsts totalNodes
@@ -81,109 +92,158 @@ begun-small h e =
       nodes-most = omega (arith, ap (λ (x : Held). x .used) e);
     }
 
--- ---- the statement in hand
-
--- It is the first of those that follow.
-in-hand : (text : List ℕ) (at n : ℕ) (t : Taken) → Takes text at n t → not (t .found) ≡ false → (s : Statement) × (t .stmt ≡ stmtOf s) × (following text at n ≡ s ∷ following text (t .at) (t .n))
-in-hand text at n t k f = found-first (following text at n) (following text (t .at) (t .n)) (t .stmt) (t .found) (k .first) (not-false (t .found) f)
+-- ---- one statement
 
 -- Its characters up to its end, blanks left out.
 chars-inked : (field : List ℕ) → ahead (padded 1320 field) 0 (length field) ≡ inked field
 unfolding ahead
 chars-inked field = ap (λ (k : ℕ). inked (take k (padded 1320 field))) (sub-zero (length field)) ∙ ap inked (take-padded 1320 field)
 
+blanks-inked : (k : ℕ) → inked (replicate k blank) ≡ []
+blanks-inked k = keep-none (λ (c : ℕ). not (isBlank c)) (replicate k blank) (each-replicate (λ (c : ℕ). not (isBlank c) ≡ false) k blank refl)
+
+-- Those of a field as it stands on its card: the blanks that fill it up mean nothing.
+field-inked : (field card : List ℕ) → field ≡ drop (fieldStart - 1) (take fieldEnd card) → ahead field 0 (length field) ≡ inked (fieldOf card)
+unfolding ahead
+field-inked field card e =
+    let k : ℕ = 66 - length field in
+    let filled : field ++ replicate k blank ≡ fieldOf card = ap (λ (f : List ℕ). f ++ replicate (66 - length f) blank) e ∙ field-filled card in
+    ap inked (take-all (length field - 0) field (omega arith))
+    ∙ sym (append-nil (inked field))
+    ∙ ap (λ (x : List ℕ). inked field ++ x) (sym (blanks-inked k))
+    ∙ sym (keep-append (λ (c : ℕ). not (isBlank c)) field (replicate k blank))
+    ∙ ap inked filled
+
 used-there : (s : Statement) (stmt : Stmt) → stmt ≡ stmtOf s → stmt .used ≤ length (stmt .chars)
 used-there s stmt e = rw e (omega (arith, length-append (s .field) (replicate (1320 - length (s .field)) 0)))
 
--- What the reader of one statement asks.
-module _ (inits₀ scratch₀ lefts₀ ends₀ nodes₀ property₀ inits scratch lefts ends nodes property : List ℕ) (text : List ℕ) (at n : ℕ) (t : Taken) (held : Held) where
-  pub may-read : Empty inits₀ scratch₀ lefts₀ ends₀ nodes₀ property₀ → SameLengths inits₀ scratch₀ lefts₀ ends₀ nodes₀ property₀ inits scratch lefts ends nodes property → Takes text at n t → not (t .found) ≡ false → length (t .stmt .chars) ≡ 1320 → Small held
-      → (t .stmt .used ≤ length (t .stmt .chars)) × (t .stmt .used ≤ length scratch) × (length scratch ≡ 1320) × Small held × (length inits ≡ 64) × Lengths lefts ends nodes × (length property ≡ 128)
-  may-read e l k f c h =
-      let s = in-hand text at n t k f in
-      let u : t .stmt .used ≤ length (t .stmt .chars) = used-there (s .0) (t .stmt) (s .1) in
-      let long : length scratch ≡ 1320 = l .scratch-same ∙ e .scratch-long in (
-        u,
-        omega arith,
-        long,
-        h,
-        l .inits-same ∙ ap length (e .inits-zero),
-        record { lefts-long = l .lefts-same ∙ ap length (e .lefts-zero); ends-long = l .ends-same ∙ ap length (e .ends-zero); nodes-long = l .nodes-same ∙ ap length (e .nodes-zero) },
-        l .property-same ∙ e .property-long,
-      )
-
--- What it comes to, as the reader of one statement judges it.
-judged : (s : Statement) (stmt : Stmt) (card k : ℕ) (so : Sofar) → stmt ≡ stmtOf s → card ≡ getD (stmt .cards) 0 0 → dueStatement (so .due) card (ahead (stmt .chars) 0 (stmt .used)) (so .typed) ≡ statementRead k s so
-unfolding statementRead
-judged s stmt card k so e c =
+-- What a statement in hand comes to, as the reader of one statement judges it.
+judged : (s : Statement) (stmt : Stmt) (card : ℕ) (so : Sofar) → stmt ≡ stmtOf s → card ≡ getD (stmt .cards) 0 0 → dueStatement (so .due) card (ahead (stmt .chars) 0 (stmt .used)) (so .typed) ≡ dueStatement (so .due) (s .card) (inked (s .field)) (so .typed)
+judged s stmt card so e c =
     ap (λ (m : ℕ). dueStatement (so .due) m (ahead (stmt .chars) 0 (stmt .used)) (so .typed)) (c ∙ ap (λ (x : Stmt). getD (x .cards) 0 0) e)
     ∙ ap (λ (cs : List ℕ). dueStatement (so .due) (s .card) cs (so .typed)) (ap (λ (x : Stmt). ahead (x .chars) 0 (x .used)) e ∙ chars-inked (s .field))
 
+-- What the reader of one statement asks, of so many characters.
+module _ (inits scratch lefts ends nodes property : List ℕ) (held : Held) (chars : List ℕ) (end : ℕ) where
+  abbrev Asked : Type 0
+  Asked = (end ≤ length chars) × (end ≤ length scratch) × (length scratch ≡ 1320) × Small held × (length inits ≡ 64) × Lengths lefts ends nodes × (length property ≡ 128)
+
+  asked : Rows inits scratch lefts ends nodes property → Small held → end ≤ length chars → end ≤ 1320 → Asked
+  asked r h u m = (u, omega (arith, r .scratch-long), r .scratch-long, h, r .inits-long, r .equations-long, r .property-long)
+
+-- What it promises of the statement of card n, with these characters.
+module _ (inits lefts ends nodes property : List ℕ) (held : Held) (read : StatementRead) (inits′ lefts′ ends′ nodes′ property′ : List ℕ) where
+  abbrev Reads : ℕ → List ℕ → Type 0
+  Reads n cs = (s : Sofar) → Holds s held inits lefts ends nodes property → Came (dueStatement (s .due) n cs (s .typed)) read inits′ lefts′ ends′ nodes′ property′
+
+module _ (text : List ℕ) (p : Place) (h : p .at < length text) (at : Placed text p) where
+  abbrev card : List ℕ
+  card = take (p .end - p .at) (drop (p .at) text)
+
+  pub rises : p .at ≤ p .end
+  rises = omega (arith, at .ends h)
+
+  pub ends-within : p .end ≤ length text
+  ends-within = at .within h
+
+  -- ---- on one card
+
+  module _ (field : List ℕ) (e : field ≡ drop (fieldStart - 1) (take fieldEnd card)) where
+    pub may-read-field : (inits scratch lefts ends nodes property : List ℕ) (held : Held) → Rows inits scratch lefts ends nodes property → Small held → Asked inits scratch lefts ends nodes property held field (length field)
+    may-read-field inits scratch lefts ends nodes property held r s = asked inits scratch lefts ends nodes property held field (length field) r s (omega arith) (omega (arith, field-short field card e))
+
+    pub read-alone : (inits lefts ends nodes property : List ℕ) (held : Held) (read : StatementRead) (inits′ lefts′ ends′ nodes′ property′ : List ℕ) (b : Bool)
+        → b ≡ continued (cardsOf (drop (p .end + 1) text)) → b ≡ false → Small (read .held) → Reads inits lefts ends nodes property held read inits′ lefts′ ends′ nodes′ property′ (p .n) (ahead field 0 (length field))
+        → Stepped text p held inits lefts ends nodes property (record { read = read; at = p .end + 1; n = p .n + 1 }) inits′ lefts′ ends′ nodes′ property′
+    read-alone inits lefts ends nodes property held read inits′ lefts′ ends′ nodes′ property′ b c f m r =
+        record {
+          its = alone (p .n) card;
+          first = stands-alone text p at h (sym f ∙ c);
+          came = λ s y. subst (λ (cs : List ℕ). Came (dueStatement (s .due) (p .n) cs (s .typed)) read inits′ lefts′ ends′ nodes′ property′) (field-inked field card e) (r s y);
+          onward = place-on text p at h;
+          near = omega (arith, place-on text p at h, at .near);
+          formed = behind-formed text p at h;
+          small = m;
+        }
+
+  -- ---- with the cards that continue it
+
+  module _ (t : Taken) (k : Takes text (p .at) (p .n) t) where
+    -- It is the first of those that follow.
+    in-hand : (s : Statement) × (t .stmt ≡ stmtOf s) × (following text (p .at) (p .n) ≡ s ∷ following text (t .at) (t .n))
+    in-hand = found-first (following text (p .at) (p .n)) (following text (t .at) (t .n)) (t .stmt) (t .found) (k .first) (one-taken text p at h t k)
+
+    pub may-read-all : (inits scratch lefts ends nodes property : List ℕ) (held : Held) → Rows inits scratch lefts ends nodes property → Small held → length (t .stmt .chars) ≡ 1320 → Asked inits scratch lefts ends nodes property held (t .stmt .chars) (t .stmt .used)
+    may-read-all inits scratch lefts ends nodes property held r s l =
+        let u : t .stmt .used ≤ length (t .stmt .chars) = used-there (in-hand .0) (t .stmt) (in-hand .1) in
+        asked inits scratch lefts ends nodes property held (t .stmt .chars) (t .stmt .used) r s u (omega arith)
+
+    pub read-continued : (inits lefts ends nodes property : List ℕ) (held : Held) (read : StatementRead) (inits′ lefts′ ends′ nodes′ property′ : List ℕ) (n : ℕ)
+        → n ≡ getD (t .stmt .cards) 0 0 → Small (read .held) → Reads inits lefts ends nodes property held read inits′ lefts′ ends′ nodes′ property′ n (ahead (t .stmt .chars) 0 (t .stmt .used))
+        → Stepped text p held inits lefts ends nodes property (record { read = read; at = t .at; n = t .n }) inits′ lefts′ ends′ nodes′ property′
+    read-continued inits lefts ends nodes property held read inits′ lefts′ ends′ nodes′ property′ n c m r =
+        let its : Statement = in-hand .0 in
+        record {
+          its = its;
+          first = in-hand .2;
+          came = λ s y. subst (λ (o : Outcome Sofar). Came o read inits′ lefts′ ends′ nodes′ property′) (judged its (t .stmt) n s (in-hand .1) c) (r s y);
+          onward = k .onward (one-taken text p at h t k);
+          near = k .near;
+          formed = k .formed;
+          small = m;
+        }
+
 -- ---- from statement to statement
 
-module _ (text : List ℕ) (at n : ℕ) (held : Held) (inits lefts ends nodes property : List ℕ) where
-  abbrev went : StatementRead
-  went = record { fine = true; answer = Fine; held = held }
+-- No statement follows: all were taken.
+pub walked-end : (text : List ℕ) (p : Place) (held : Held) (inits lefts ends nodes property : List ℕ) (r : StatementRead) → Walked text p held inits lefts ends nodes property → length text ≤ p .at → r ≡ record { fine = true; answer = Fine; held = held } → Came (whole text) r inits lefts ends nodes property
+unfolding walk gathered ended unended
+walked-end text p held inits lefts ends nodes property r w h q =
+    let none : following text (p .at) (p .n) ≡ [] = ap (λ (l : List ℕ). gathered (p .n) (cardsOf l) Nothing) (drop-of-length-le text {i = p .at} h) in
+    let z : whole text ≡ Got (w .sofar) = w .rest-is ∙ ap (λ (ss : List Statement). walk statementRead (w .next) ss (w .sofar)) none in
+    rw (z, q) (refl, w .holds)
 
-  -- No statement follows: all were taken.
-  walked-all : (r : StatementRead) → Walked text at n held inits lefts ends nodes property → following text at n ≡ [] → r ≡ went → Came (whole text) r inits lefts ends nodes property
-  unfolding walk
-  walked-all r w e q =
-      let z : whole text ≡ Got (w .sofar) = w .rest-is ∙ ap (λ (ss : List Statement). walk statementRead (w .next) ss (w .sofar)) e in
-      rw (z, q) (refl, w .holds)
-
-  pub walked-end : (r : StatementRead) → Walked text at n held inits lefts ends nodes property → length text ≤ at → r ≡ went → Came (whole text) r inits lefts ends nodes property
-  unfolding gathered ended unended
-  walked-end r w h q = walked-all r w (ap (λ (l : List ℕ). gathered n (cardsOf l) Nothing) (drop-of-length-le text {i = at} h)) q
-
-  pub walked-none : (t : Taken) (r : StatementRead) → Walked text at n held inits lefts ends nodes property → Takes text at n t → not (t .found) ≡ true → r ≡ went → Came (whole text) r inits lefts ends nodes property
-  walked-none t r w k f q = walked-all r w (found-none (following text at n) (following text (t .at) (t .n)) (t .stmt) (t .found) (k .first) (not-true (t .found) f)) q
-
--- A statement taken at place at and read: what is known behind it.
-pub record Turn (text : List ℕ) (at n : ℕ) (held : Held) (inits lefts ends nodes property : List ℕ) (t : Taken) (r : StatementRead) (inits′ lefts′ ends′ nodes′ property′ : List ℕ) : Type 0 where
-  pub walked : Walked text at n held inits lefts ends nodes property
-  pub takes : Takes text at n t
-  pub found : not (t .found) ≡ false
-  pub card : ℕ
-  pub came : (s : Sofar) → Holds s held inits lefts ends nodes property → Came (dueStatement (s .due) card (ahead (t .stmt .chars) 0 (t .stmt .used)) (s .typed)) r inits′ lefts′ ends′ nodes′ property′
-  pub card-is : card ≡ getD (t .stmt .cards) 0 0
-
-module _ (text : List ℕ) (at n : ℕ) (held : Held) (inits lefts ends nodes property : List ℕ) (t : Taken) (r : StatementRead) (inits′ lefts′ ends′ nodes′ property′ : List ℕ)
-    (u : Turn text at n held inits lefts ends nodes property t r inits′ lefts′ ends′ nodes′ property′) where
+module _ (text : List ℕ) (p : Place) (held : Held) (inits lefts ends nodes property : List ℕ) (r : Step) (inits′ lefts′ ends′ nodes′ property′ : List ℕ)
+    (w : Walked text p held inits lefts ends nodes property) (t : Stepped text p held inits lefts ends nodes property r inits′ lefts′ ends′ nodes′ property′) where
   abbrev before : Sofar
-  before = u .walked .sofar
+  before = w .sofar
 
   abbrev k : ℕ
-  k = u .walked .next
+  k = w .next
 
   abbrev further : List Statement
-  further = following text (t .at) (t .n)
+  further = following text (r .at) (r .n)
 
   abbrev CameTo : Outcome Sofar → Type 0
-  CameTo o = Came o r inits′ lefts′ ends′ nodes′ property′
+  CameTo o = Came o (r .read) inits′ lefts′ ends′ nodes′ property′
 
-  -- The statement, the whole from it on, and what it comes to.
-  first : (s : Statement) × (whole text ≡ walk statementRead k (s ∷ further) before) × CameTo (statementRead k s before)
-  first =
-      let s = in-hand text at n t (u .takes) (u .found) in (
-        s .0,
-        u .walked .rest-is ∙ ap (λ (ss : List Statement). walk statementRead k ss before) (s .2),
-        subst CameTo (judged (s .0) (t .stmt) (u .card) k before (s .1) (u .card-is)) (u .came before (u .walked .holds)),
-      )
+  -- The whole from the statement on, and what it comes to.
+  from-it : whole text ≡ walk statementRead k (t .its ∷ further) before
+  from-it = w .rest-is ∙ ap (λ (ss : List Statement). walk statementRead k ss before) (t .first)
 
-  pub turn-less : at < length text → length text - t .at < length text - at
-  turn-less h = omega (arith, u .takes .onward (not-false (t .found) (u .found)))
+  came-to : CameTo (statementRead k (t .its) before)
+  unfolding statementRead
+  came-to = t .came before (w .holds)
 
-  pub walked-refused : not (r .fine) ≡ true → Came (whole text) r inits′ lefts′ ends′ nodes′ property′
-  walked-refused f = go (statementRead k (first .0) before) refl (first .2)
+  pub walked-refused : not (r .read .fine) ≡ true → CameTo (whole text)
+  walked-refused f = go (statementRead k (t .its) before) refl came-to
     where
-      go : (o : Outcome Sofar) → statementRead k (first .0) before ≡ o → CameTo o → CameTo (whole text)
-      go (Got so) p y = let z : false ≡ true = ap not (sym (y .0)) ∙ f in let i : _≡_ {A = ℕ} 0 1 = cc in absurd (omega arith)
-      go (Refused a) p y = subst CameTo (sym (first .1 ∙ walk-refused statementRead k (first .0) further before a p)) y
+      go : (o : Outcome Sofar) → statementRead k (t .its) before ≡ o → CameTo o → CameTo (whole text)
+      go (Got so) q y = let z : false ≡ true = ap not (sym (y .0)) ∙ f in let i : _≡_ {A = ℕ} 0 1 = cc in absurd (omega arith)
+      go (Refused a) q y = subst CameTo (sym (from-it ∙ walk-refused statementRead k (t .its) further before a q)) y
 
-  pub walked-on : not (r .fine) ≡ false → Walked text (t .at) (t .n) (r .held) inits′ lefts′ ends′ nodes′ property′
-  walked-on f = go (statementRead k (first .0) before) refl (first .2)
+  pub walked-on : (p′ : Place) → not (r .read .fine) ≡ false → AtOpening text (r .at) (r .n) p′ → Walked text p′ (r .read .held) inits′ lefts′ ends′ nodes′ property′
+  walked-on p′ f o = go (statementRead k (t .its) before) refl came-to
     where
-      go : (o : Outcome Sofar) → statementRead k (first .0) before ≡ o → CameTo o → Walked text (t .at) (t .n) (r .held) inits′ lefts′ ends′ nodes′ property′
-      go (Got so) p y = record { sofar = so; holds = y .1; next = suc k; rest-is = first .1 ∙ walk-got statementRead k (first .0) further before so p }
-      go (Refused a) p y = let z : false ≡ true = sym (ap (λ (x : StatementRead). x .fine) y) ∙ not-false (r .fine) f in let i : _≡_ {A = ℕ} 0 1 = cc in absurd (omega arith)
+      go : (o : Outcome Sofar) → statementRead k (t .its) before ≡ o → CameTo o → Walked text p′ (r .read .held) inits′ lefts′ ends′ nodes′ property′
+      go (Got so) q y =
+          record {
+            sofar = so;
+            holds = y .1;
+            next = suc k;
+            rest-is = from-it ∙ walk-got statementRead k (t .its) further before so q ∙ ap (λ (ss : List Statement). walk statementRead (suc k) ss so) (o .same);
+          }
+      go (Refused a) q y = let z : false ≡ true = sym (ap (λ (x : StatementRead). x .fine) y) ∙ not-false (r .read .fine) f in let i : _≡_ {A = ℕ} 0 1 = cc in absurd (omega arith)
+
+  pub turn-less : (p′ : Place) → p .at < length text → AtOpening text (r .at) (r .n) p′ → length text - p′ .at < length text - p .at
+  turn-less p′ h o = omega (arith, t .onward, o .onward)

@@ -12,8 +12,9 @@ ghost use Rattle.cards.specs.Card.{cardsOf};
 ghost use Rattle.cards.specs.Statement.{statementsOf};
 ghost use Rattle.cards.specs.Typed.{firstVars, deckOf};
 ghost use Rattle.cards.specs.Read.{Sofar, begun, statementRead, cardsEnd, readCards};
-ghost use Rattle.statements.specs.Hold.{Formed};
-ghost use Rattle.cardlines.specs.Held.{Came};
+ghost use Rattle.statements.specs.Hold.{Formed, Placed};
+ghost use Rattle.cardlines.specs.Held.{Small, Came};
+ghost use Rattle.cardreading.specs.Stepped.{Rows, Stepped};
 ghost use Rattle.cardreading.specs.Finished.{Ready, Empty};
 
 // The set of the first variables.
@@ -25,6 +26,92 @@ fn first_vars(count: usize) -> u64
         return 18446744073709551615;
     }
     (1u64 << count) - 1
+}
+
+// What a statement came to, and where the card behind it begins, with its number.
+pub struct Step {
+    pub read: cardlines::StatementRead,
+    pub at: usize,
+    pub n: u64,
+}
+
+// The statement that opens at a place of the text, with the cards that continue it.
+fn continued_statement(
+    text: &[u8],
+    p: statements::Place,
+    held: cardlines::Held,
+    inits: &mut [u64],
+    scratch: &mut [u16],
+    lefts: &mut [u16],
+    ends: &mut [u16],
+    nodes: &mut [u16],
+    property: &mut [u16],
+) -> Step
+    requires { ⌜ (p .at < length (now text)) × Placed (now text) p × Small held × Rows (now inits) (now scratch) (now lefts) (now ends) (now nodes) (now property) ⌝ }
+    ensures { λ r. ⌜ Stepped (now (text .entry)) p held (now (inits .entry)) (now (lefts .entry)) (now (ends .entry)) (now (nodes .entry)) (now (property .entry)) r (now (inits .exit)) (now (lefts .exit)) (now (ends .exit)) (now (nodes .exit)) (now (property .exit)) ⌝ }
+{
+    let t = statements::next_statement(text, p.at, p.n);
+    let stmt = t.stmt;
+    let card = stmt.cards[0];
+    let read = cardlines::statement_read(
+        &stmt.chars,
+        stmt.used,
+        card,
+        held,
+        inits,
+        scratch,
+        lefts,
+        ends,
+        nodes,
+        property,
+    );
+    Step {
+        read: read,
+        at: t.at,
+        n: t.n,
+    }
+}
+
+// The statement that opens at a place of the text: where it stands on one card, from its field on that card.
+fn one_statement(
+    text: &[u8],
+    p: statements::Place,
+    held: cardlines::Held,
+    inits: &mut [u64],
+    scratch: &mut [u16],
+    lefts: &mut [u16],
+    ends: &mut [u16],
+    nodes: &mut [u16],
+    property: &mut [u16],
+) -> Step
+    requires { ⌜ (p .at < length (now text)) × Placed (now text) p × Small held × Rows (now inits) (now scratch) (now lefts) (now ends) (now nodes) (now property) ⌝ }
+    ensures { λ r. ⌜ Stepped (now (text .entry)) p held (now (inits .entry)) (now (lefts .entry)) (now (ends .entry)) (now (nodes .entry)) (now (property .entry)) r (now (inits .exit)) (now (lefts .exit)) (now (ends .exit)) (now (nodes .exit)) (now (property .exit)) ⌝ }
+{
+    let start = p.at;
+    let end = p.end;
+    let next = end + 1;
+    let n = p.n + 1;
+    if statements::is_continued(text, next) {
+        return continued_statement(text, p, held, inits, scratch, lefts, ends, nodes, property);
+    }
+    let field = firstpass::field(&text[start..end]);
+    let read = cardlines::statement_read(
+        field,
+        field.len(),
+        p.n,
+        held,
+        inits,
+        scratch,
+        lefts,
+        ends,
+        nodes,
+        property,
+    );
+    Step {
+        read: read,
+        at: next,
+        n: n,
+    }
 }
 
 // Statement by statement, into arrays of zeros.
@@ -41,33 +128,15 @@ fn all_statements(
     ensures { λ r. ⌜ Came (walk statementRead 1 (statementsOf (cardsOf (now (text .entry)))) begun) r (now (inits .exit)) (now (lefts .exit)) (now (ends .exit)) (now (nodes .exit)) (now (property .exit)) ⌝ }
 {
     let mut held = cardlines::nothing();
-    let mut at = 0;
-    let mut n = 1u64;
-    while at < text.len() {
-        let t = statements::next_statement(text, at, n);
-        if !t.found {
-            return went(held);
+    let mut p = statements::opening(text, 0, 1);
+    while p.at < text.len() {
+        let r = one_statement(text, p, held, inits, scratch, lefts, ends, nodes, property);
+        let read = r.read;
+        if !read.fine {
+            return read;
         }
-        let stmt = t.stmt;
-        let card = stmt.cards[0];
-        let r = cardlines::statement_read(
-            &stmt.chars,
-            stmt.used,
-            card,
-            held,
-            inits,
-            scratch,
-            lefts,
-            ends,
-            nodes,
-            property,
-        );
-        if !r.fine {
-            return r;
-        }
-        held = r.held;
-        at = t.at;
-        n = t.n;
+        held = read.held;
+        p = statements::opening(text, r.at, r.n);
     }
     went(held)
 }

@@ -23,7 +23,9 @@ use Rattle.firstpass.specs.Passed.{kindIs}
 use Rattle.ends.specs.Ends.{lineLength}
 use Rattle.firstpass.proofs.Laws.{cards-next, field-filled}
 use Rattle.statements.specs.declared.Stmt.{Stmt}
-use Rattle.statements.specs.Hold.{held, stmtOf, Room, filled, withCard, foldedIn, opens, Formed, AtOpening, FirstOf, Takes}
+use Rattle.statements.specs.declared.Place.{Place}
+use Rattle.statements.specs.declared.Taken.{Taken}
+use Rattle.statements.specs.Hold.{held, stmtOf, Room, filled, withCard, foldedIn, opens, continues, continued, Formed, Placed, AtOpening, FirstOf, Takes}
 
 -- ---- a field put behind those in hand
 
@@ -161,15 +163,19 @@ module _ (text : List ℕ) (at n i k end : ℕ) (kd : CardKind) (b : Bool) where
   abbrev KindHere : Type 0
   KindHere = kindIs kd ≡ kindOf (take (end - i) (drop i text))
 
-  pub met : at ≤ i → k ≤ i + 1 → Same → Formed k (cardsOf (drop i text)) → Ends → KindHere → b ≡ opens (kindIs kd) → b ≡ true → AtOpening text at n i k
-  met o l s f e q p t =
+  pub met : at ≤ i → k ≤ i + 1 → Same → Formed k (cardsOf (drop i text)) → Ends → end ≤ length text → KindHere → b ≡ opens (kindIs kd) → b ≡ true → AtOpening text at n (record { at = i; n = k; end = end })
+  met o l s f e w q p t =
       let long : end - i ≡ lineLength (drop i text) = omega arith in
       record {
         onward = o;
-        near = l;
         same = s;
-        formed = f;
-        opener = λ h. ap (λ (j : ℕ). kindOf (take j (drop i text))) (sym long) ∙ sym q ∙ opening-is (kindIs kd) (sym p ∙ t);
+        placed = record {
+          near = l;
+          formed = f;
+          opener = λ h. ap (λ (j : ℕ). kindOf (take j (drop i text))) (sym long) ∙ sym q ∙ opening-is (kindIs kd) (sym p ∙ t);
+          ends = λ h. e;
+          within = λ h. w;
+        };
       }
 
   pub same-on : i < length text → Same → Ends → KindHere → b ≡ opens (kindIs kd) → b ≡ false → gathered n (cardsOf (drop at text)) Nothing ≡ gathered (k + 1) (cardsOf (drop (end + 1) text)) Nothing
@@ -187,8 +193,8 @@ module _ (text : List ℕ) (at n i k : ℕ) where
       let cs : List (List ℕ) = cardsOf (drop (end + 1) text) in
       subst (λ (j : ℕ). Formed j cs) (sym (add-one k)) (formed-next k (take (end - i) (drop i text)) cs (subst (Formed k) (cards-next text i end h e) f))
 
-  pub met-none : at ≤ i → k ≤ i + 1 → gathered n (cardsOf (drop at text)) Nothing ≡ gathered k (cardsOf (drop i text)) Nothing → Formed k (cardsOf (drop i text)) → length text ≤ i → AtOpening text at n i k
-  met-none o l s f h = record { onward = o; near = l; same = s; formed = f; opener = λ g. absurd (omega arith) }
+  pub met-none : at ≤ i → k ≤ i + 1 → gathered n (cardsOf (drop at text)) Nothing ≡ gathered k (cardsOf (drop i text)) Nothing → Formed k (cardsOf (drop i text)) → length text ≤ i → AtOpening text at n (record { at = i; n = k; end = i })
+  met-none o l s f h = record { onward = o; same = s; placed = record { near = l; formed = f; opener = λ g. absurd (omega arith); ends = λ g. absurd (omega arith); within = λ g. absurd (omega arith) } }
 
 -- ---- the statement in hand
 
@@ -229,23 +235,26 @@ open-now : (n : ℕ) (o q : Open) (k : Kind) → k ≡ Opening → opened n k o 
 unfolding opened
 open-now n o q k e g = sym g ∙ rw e refl
 
-pub begun : (text : List ℕ) (at n i k end : ℕ) (none stmt : Stmt) (part : List ℕ) → AtOpening text at n i k → i < length text → end ≡ i + lineLength (drop i text) → part ≡ partOfField (take (end - i) (drop i text)) → none ≡ held [] [] → stmt ≡ withCard none k part → Taking text at n stmt (end + 1) (k + 1)
-begun text at n i k end none stmt part a h e q o s =
+pub begun : (text : List ℕ) (at n end : ℕ) (p : Place) (none stmt : Stmt) (part : List ℕ) → AtOpening text at n p → p .at < length text → end ≡ p .at + lineLength (drop (p .at) text) → part ≡ partOfField (take (end - p .at) (drop (p .at) text)) → none ≡ held [] [] → stmt ≡ withCard none (p .n) part → Taking text at n stmt (end + 1) (p .n + 1)
+begun text at n end p none stmt part a h e q o s =
+    let i : ℕ = p .at in
+    let k : ℕ = p .n in
+    let f = a .placed .formed in
     let c : List ℕ = take (end - i) (drop i text) in
     let cs : List (List ℕ) = cardsOf (drop (end + 1) text) in
     let long : lineLength (drop i text) ≡ end - i = omega arith in
-    let opener : kindOf c ≡ Opening = ap (λ (j : ℕ). kindOf (take j (drop i text))) (sym long) ∙ a .opener h in
-    let w = walk-next k c cs (a .formed .before) (a .formed .behind) (subst (λ (x : List (List ℕ)). walk cardInForm k x (a .formed .before) ≡ Got (a .formed .behind)) (cards-next text i end h e) (a .formed .walked)) in
-    let shut : w .0 ≡ Continued 0 = got-eq (open-now k (a .formed .before) (w .0) (kindOf c) opener (w .1)) in
+    let opener : kindOf c ≡ Opening = ap (λ (j : ℕ). kindOf (take j (drop i text))) (sym long) ∙ a .placed .opener h in
+    let w = walk-next k c cs (f .before) (f .behind) (subst (λ (x : List (List ℕ)). walk cardInForm k x (f .before) ≡ Got (f .behind)) (cards-next text i end h e) (f .walked)) in
+    let shut : w .0 ≡ Continued 0 = got-eq (open-now k (f .before) (w .0) (kindOf c) opener (w .1)) in
     record {
       inHand = record { card = k; further = []; field = fieldOf c };
       is = s ∙ ap (λ (x : Stmt). withCard x k part) o ∙ ap (withCard (held [] []) k) q ∙ held-more [] [] (partOfField c) k (omega arith) (part-short c) ∙ ap (held (k ∷ [])) (field-filled c);
       long = length-field c;
       follows = a .same ∙ ap (λ (x : List (List ℕ)). gathered k x Nothing) (cards-next text i end h e) ∙ taken-up k c cs opener ∙ ap (λ (j : ℕ). gathered j cs (Held (record { card = k; further = []; field = fieldOf c }))) (sym (add-one k));
-      behind = a .formed .behind;
+      behind = f .behind;
       walked = ap (λ (j : ℕ). walk cardInForm j cs (Continued 0)) (add-one k) ∙ ap (walk cardInForm (suc k) cs) (sym shut) ∙ w .2;
       onward = omega (arith, a .onward);
-      near = omega (arith, a .near);
+      near = omega (arith, a .placed .near);
     }
 
 -- A continuation in form is the nineteenth at most.
@@ -359,21 +368,88 @@ module _ (text : List ℕ) (at n i k : ℕ) (stmt : Stmt) where
   taken-last t h = taken t (rw (no-cards text i h) refl)
 
 -- No card opens a statement: none is taken.
-pub none-taken : (text : List ℕ) (at n i k : ℕ) (stmt : Stmt) → AtOpening text at n i k → length text ≤ i → stmt ≡ held [] [] → Takes text at n (record { found = false; stmt = stmt; at = i; n = k })
+pub none-taken : (text : List ℕ) (at n : ℕ) (p : Place) (stmt : Stmt) → AtOpening text at n p → length text ≤ p .at → stmt ≡ held [] [] → Takes text at n (record { found = false; stmt = stmt; at = p .at; n = p .n })
 unfolding gathered
-none-taken text at n i k stmt a h s =
-    let none : gathered k (cardsOf (drop i text)) Nothing ≡ [] = rw (no-cards text i h) refl in
-    record { first = rw (a .same, none) (refl, s, refl); onward = λ e. let z : _≡_ {A = ℕ} 0 1 = cc in absurd (omega arith); near = a .near; formed = a .formed }
+none-taken text at n p stmt a h s =
+    let none : gathered (p .n) (cardsOf (drop (p .at) text)) Nothing ≡ [] = rw (no-cards text (p .at) h) refl in
+    record { first = rw (a .same, none) (refl, s, refl); onward = λ e. let z : _≡_ {A = ℕ} 0 1 = cc in absurd (omega arith); near = a .placed .near; formed = a .placed .formed }
 
--- ---- what a caller has of a statement that was taken, and where none was
+-- ---- whether the next card continues the statement
+
+pub none-continues : (text : List ℕ) (at : ℕ) → length text ≤ at → false ≡ continued (cardsOf (drop at text))
+none-continues text at h = ap continued (sym (no-cards text at h))
+
+pub next-continues : (text : List ℕ) (at end : ℕ) (kd : CardKind) (b : Bool) → at < length text → end ≡ at + lineLength (drop at text) → kindIs kd ≡ kindOf (take (end - at) (drop at text)) → b ≡ continues (kindIs kd) → b ≡ continued (cardsOf (drop at text))
+next-continues text at end kd b h e q p = p ∙ ap continues q ∙ ap continued (sym (cards-next text at end h e))
+
+-- A statement that the next card does not continue is laid down before it.
+laid-before : (n : ℕ) (cs : List (List ℕ)) (s : Statement) → continued cs ≡ false → gathered n cs (Held s) ≡ s ∷ gathered n cs Nothing
+unfolding gathered
+laid-before n [] s e = refl
+laid-before n (c ∷ cs) s e = go (kindOf c) refl e
+  where
+    go : (k : Kind) → k ≡ kindOf c → continues k ≡ false → gathered n (c ∷ cs) (Held s) ≡ s ∷ gathered n (c ∷ cs) Nothing
+    go Comment q f = laid-down n c cs s Comment q refl
+    go Empty q f = laid-down n c cs s Empty q refl
+    go Opening q f = laid-down n c cs s Opening q refl
+    go Continuing q f = let z : _≡_ {A = ℕ} 0 1 = cc in absurd (omega arith)
+
+-- The statement in hand, with the cards that continue it, is laid down in the end.
+some-laid : (n : ℕ) (cs : List (List ℕ)) (s : Statement) → (t : Statement) × (ts : List Statement) × (gathered n cs (Held s) ≡ t ∷ ts)
+unfolding gathered
+some-laid n [] s = (s, [], refl)
+some-laid n (c ∷ cs) s = go (kindOf c) refl (λ t. some-laid (suc n) cs t)
+  where
+    go : (k : Kind) → k ≡ kindOf c → ((t : Statement) → (u : Statement) × (us : List Statement) × (gathered (suc n) cs (Held t) ≡ u ∷ us)) → (t : Statement) × (ts : List Statement) × (gathered n (c ∷ cs) (Held s) ≡ t ∷ ts)
+    go Comment q r = (s, gathered n (c ∷ cs) Nothing, laid-down n c cs s Comment q refl)
+    go Empty q r = (s, gathered n (c ∷ cs) Nothing, laid-down n c cs s Empty q refl)
+    go Opening q r = (s, gathered n (c ∷ cs) Nothing, laid-down n c cs s Opening q refl)
+    go Continuing q r = let (t, ts, e) = r (goneOn Continuing n c s) in (t, ts, gone-on n c cs s Continuing q refl ∙ e)
+
+-- The statement of a card alone.
+abbrev pub alone : ℕ → List ℕ → Statement
+alone n card = record { card = n; further = []; field = fieldOf card }
+
+-- The card that opens a statement, the place of the card behind it, and what is in form there.
+module _ (text : List ℕ) (p : Place) (at : Placed text p) (h : p .at < length text) where
+  abbrev cardHere : List ℕ
+  cardHere = take (p .end - p .at) (drop (p .at) text)
+
+  abbrev cardsBehind : List (List ℕ)
+  cardsBehind = cardsOf (drop (p .end + 1) text)
+
+  opener-here : kindOf cardHere ≡ Opening
+  opener-here =
+      let long : lineLength (drop (p .at) text) ≡ p .end - p .at = omega (arith, at .ends h) in
+      ap (λ (j : ℕ). kindOf (take j (drop (p .at) text))) (sym long) ∙ at .opener h
+
+  taken-here : gathered (p .n) (cardsOf (drop (p .at) text)) Nothing ≡ gathered (p .n + 1) cardsBehind (Held (alone (p .n) cardHere))
+  taken-here =
+      ap (λ (x : List (List ℕ)). gathered (p .n) x Nothing) (cards-next text (p .at) (p .end) h (at .ends h))
+      ∙ taken-up (p .n) cardHere cardsBehind opener-here
+      ∙ ap (λ (j : ℕ). gathered j cardsBehind (Held (alone (p .n) cardHere))) (sym (add-one (p .n)))
+
+  pub place-on : p .at < p .end + 1
+  place-on = omega (arith, at .ends h)
+
+  pub behind-formed : Formed (p .n + 1) cardsBehind
+  behind-formed = formed-on text 0 0 (p .at) (p .n) (p .end) h (at .ends h) (at .formed)
+
+  -- From the card that opens it on, a statement is taken.
+  pub one-taken : (t : Taken) → Takes text (p .at) (p .n) t → t .found ≡ true
+  one-taken t k =
+      let (s, ss, e) = some-laid (p .n + 1) cardsBehind (alone (p .n) cardHere) in
+      subst (λ (all : List Statement). FirstOf all (t .found) (t .stmt) (gathered (t .n) (cardsOf (drop (t .at) text)) Nothing)) (taken-here ∙ e) (k .first) .0
+
+  -- A statement that no card continues is that of its card alone.
+  pub stands-alone : false ≡ continued cardsBehind → gathered (p .n) (cardsOf (drop (p .at) text)) Nothing ≡ alone (p .n) cardHere ∷ gathered (p .n + 1) cardsBehind Nothing
+  stands-alone c = taken-here ∙ laid-before (p .n + 1) cardsBehind (alone (p .n) cardHere) (sym c)
+
+-- ---- what a caller has of a statement that was taken
 
 pub found-first : (all rest : List Statement) (stmt : Stmt) (b : Bool) → FirstOf all b stmt rest → b ≡ true → (s : Statement) × (stmt ≡ stmtOf s) × (all ≡ s ∷ rest)
 found-first [] rest stmt b f e = let z : _≡_ {A = ℕ} 0 1 = cc in absurd (omega arith)
 found-first (s ∷ ss) rest stmt b f e = (s, f .1, ap (λ (x : List Statement). s ∷ x) (sym (f .2)))
-
-pub found-none : (all rest : List Statement) (stmt : Stmt) (b : Bool) → FirstOf all b stmt rest → b ≡ false → all ≡ []
-found-none [] rest stmt b f e = refl
-found-none (s ∷ ss) rest stmt b f e = let z : _≡_ {A = ℕ} 0 1 = cc in absurd (omega arith)
 
 -- The whole text, in form from its first card on.
 pub formed-whole : (text : List ℕ) (o : Open) → walk cardInForm 1 (cardsOf text) Shut ≡ Got o → Formed 1 (cardsOf (drop 0 text))

@@ -11,6 +11,7 @@ use Rattle.cards.specs.Card.{cardsOf, blank, fieldStart, fieldEnd, fieldColumns
 use Rattle.cards.specs.Statement.{Statement, Nothing, gathered}
 use Rattle.ends.specs.Ends.{lineLength}
 use Rattle.statements.specs.declared.Stmt.{Stmt}
+use Rattle.statements.specs.declared.Place.{Place}
 use Rattle.statements.specs.declared.Taken.{Taken}
 
 -- The characters and the cards that a statement may have.
@@ -53,6 +54,18 @@ opens Empty = false
 opens Opening = true
 opens Continuing = false
 
+-- The cards that continue a statement.
+abbrev pub continues : Kind → Bool
+continues Comment = false
+continues Empty = false
+continues Opening = false
+continues Continuing = true
+
+-- Whether the first of the cards that follow continues the statement before it.
+abbrev pub continued : List (List ℕ) → Bool
+continued [] = false
+continued (c ∷ cs) = continues (kindOf c)
+
 -- The cards from number n on are in form, behind some open statement or none.
 pub record Formed (n : ℕ) (cards : List (List ℕ)) : Type 0 where
   pub before : Open
@@ -63,13 +76,19 @@ pub record Formed (n : ℕ) (cards : List (List ℕ)) : Type 0 where
 abbrev pub cardAt : List ℕ → ℕ → List ℕ
 cardAt text at = take (lineLength (drop at text)) (drop at text)
 
+-- From a place on all cards are in form; the one that begins there, if one does, opens a statement.
+pub record Placed (text : List ℕ) (p : Place) : Type 0 where
+  pub near : p .n ≤ p .at + 1
+  pub formed : Formed (p .n) (cardsOf (drop (p .at) text))
+  pub opener : p .at < length text → kindOf (cardAt text (p .at)) ≡ Opening
+  pub ends : p .at < length text → p .end ≡ p .at + lineLength (drop (p .at) text)
+  pub within : p .at < length text → p .end ≤ length text
+
 -- From a place of the text, where card n begins, to the next card that opens a statement, or to the end: the same statements follow.
-pub record AtOpening (text : List ℕ) (at n at′ n′ : ℕ) : Type 0 where
-  pub onward : at ≤ at′
-  pub near : n′ ≤ at′ + 1
-  pub same : gathered n (cardsOf (drop at text)) Nothing ≡ gathered n′ (cardsOf (drop at′ text)) Nothing
-  pub formed : Formed n′ (cardsOf (drop at′ text))
-  pub opener : at′ < length text → kindOf (cardAt text at′) ≡ Opening
+pub record AtOpening (text : List ℕ) (at n : ℕ) (p : Place) : Type 0 where
+  pub onward : at ≤ p .at
+  pub same : gathered n (cardsOf (drop at text)) Nothing ≡ gathered (p .n) (cardsOf (drop (p .at) text)) Nothing
+  pub placed : Placed text p
 
 -- The first of the statements is in hand and the rest follow; or there is none.
 abbrev pub FirstOf : List Statement → Bool → Stmt → List Statement → Type 0

@@ -6,7 +6,7 @@ ghost use Prim.Native.Nat.{_+_, _≤_};
 ghost use lib.ListN.{length, drop};
 ghost use Rattle.cards.specs.Card.{cardsOf, fieldColumns, closes, Continuing};
 ghost use Rattle.firstpass.specs.Passed.{kindIs};
-ghost use Rattle.statements.specs.Hold.{held, Room, withCard, foldedIn, opens, Formed, AtOpening, Takes};
+ghost use Rattle.statements.specs.Hold.{held, Room, withCard, foldedIn, opens, continues, continued, Formed, AtOpening, Takes};
 use ends::line_end;
 use firstpass::CardKind;
 use firstpass::closes;
@@ -29,10 +29,11 @@ pub struct Stmt {
     pub count: usize,
 }
 
-// Where card n of a text begins.
+// Where card n of a text begins, and where it ends.
 pub struct Place {
     pub at: usize,
     pub n: u64,
+    pub end: usize,
 }
 
 // What the walk takes: whether a statement, which, and where the cards behind it begin.
@@ -135,9 +136,9 @@ fn folded(s: Stmt, kind: CardKind, n: u64, card: &[u8]) -> Stmt
 }
 
 // From card n, which begins at a place of the text, to the next that opens a statement, or to the end.
-fn opening(text: &[u8], at: usize, n: u64) -> Place
+pub fn opening(text: &[u8], at: usize, n: u64) -> Place
     requires { ⌜ (n ≤ at + 1) × Formed n (cardsOf (drop at (now text))) ⌝ }
-    ensures { λ r. ⌜ AtOpening (now (text .entry)) at n (r .at) (r .n) ⌝ }
+    ensures { λ r. ⌜ AtOpening (now (text .entry)) at n r ⌝ }
 {
     let mut i = at;
     let mut k = n;
@@ -145,12 +146,43 @@ fn opening(text: &[u8], at: usize, n: u64) -> Place
         let end = line_end(text, i);
         let kind = kind_of(&text[i..end]);
         if opens(kind) {
-            return Place { at: i, n: k };
+            return Place {
+                at: i,
+                n: k,
+                end: end,
+            };
         }
         i = end + 1;
         k += 1;
     }
-    Place { at: i, n: k }
+    Place {
+        at: i,
+        n: k,
+        end: i,
+    }
+}
+
+// The cards that continue a statement.
+fn continues(kind: CardKind) -> bool
+    ensures { λ r. ⌜ r ≡ continues (kindIs kind) ⌝ }
+{
+    match kind {
+        CardKind::Comment => false,
+        CardKind::Empty => false,
+        CardKind::Opening => false,
+        CardKind::Continuing => true,
+    }
+}
+
+// Whether the card that begins at a place of the text, if one does, continues the statement before it.
+pub fn is_continued(text: &[u8], at: usize) -> bool
+    ensures { λ r. ⌜ r ≡ continued (cardsOf (drop at (now (text .entry)))) ⌝ }
+{
+    if text.len() <= at {
+        return false;
+    }
+    let end = line_end(text, at);
+    continues(kind_of(&text[at..end]))
 }
 
 // The next statement from card n on, which begins at a place of the text, with all its continuations.

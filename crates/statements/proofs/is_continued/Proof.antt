@@ -1,0 +1,41 @@
+use borrow.Author.Needs.{needs}
+use Rattle.statements.proofs.is_continued.Statement.{statement}
+use Rattle.statements.proofs.is_continued.Tie as tie
+use Rattle.statements.proofs.Laws as laws
+
+returns : tie.Need-returns
+returns c = search (needs, laws.none-continues)
+
+line-end-requires : tie.Need-line-end-requires
+line-end-requires c κs = search needs
+
+sub-kind-of : tie.Need-sub-kind-of
+sub-kind-of c = search needs
+
+part-kind-of-start : tie.Need-part-kind-of-start
+part-kind-of-start c = search needs
+
+part-kind-of-end : tie.Need-part-kind-of-end
+part-kind-of-end c = search needs
+
+kind-of-requires : tie.Need-kind-of-requires
+kind-of-requires c κs = search needs
+
+continues-requires : tie.Need-continues-requires
+continues-requires c κs = search needs
+
+returns-2 : tie.Need-returns-2
+returns-2 c = search (needs, laws.next-continues)
+
+pub is-continued-spec : {M : Type 1} → statement M
+is-continued-spec =
+    tie.close
+    (tie.spec
+    returns
+    line-end-requires
+    sub-kind-of
+    part-kind-of-start
+    part-kind-of-end
+    kind-of-requires
+    continues-requires
+    returns-2)
