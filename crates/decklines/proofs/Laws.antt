@@ -2,15 +2,14 @@
 use mathlib.Core.Path.{_≡_, refl, sym, ap, _∙_, subst}
 use mathlib.Core.Bool.{Bool, true, false, not}
 use mathlib.Core.List.{List, [], _∷_, _++_}
-use Prim.Native.Nat.{ℕ, suc, _+_, _-_, _*_, _%_, _^_, _<_, _≤_}
+use Prim.Native.Nat.{ℕ, _+_, _-_, _*_, _%_, _^_, _<_, _≤_}
 use native.Mathlib.Omega.{arith}
-use native.Mathlib.Numerals.{add-one}
 use lib.Dec.{ltb}
-use lib.ListN.{length, take, drop, getD, set, replicate, length-append, length-drop, length-set, drop-of-length-le}
-use lib.Seq.{drop-cons, getD-take, length-take-le, drop-drop}
-use borrow.Author.Tests.{lt-ltb, le-ltb, eq-eqb, ne-eqb, not-false}
+use lib.ListN.{length, take, drop, set, replicate, length-append, length-drop, length-set}
+use lib.Seq.{drop-drop}
+use borrow.Author.Tests.{lt-ltb, le-ltb, not-false}
 use Rattle.lists.specs.Lists.{stands, padded, splice}
-use Rattle.lists.proofs.Laws.{padded-append, padded-snoc, padded-nil, take-padded, length-splice}
+use Rattle.lists.proofs.Laws.{padded-append, padded-snoc, padded-nil, take-padded}
 use Rattle.sets.specs.Sets.{has, inside, only, union}
 use Rattle.sets.proofs.Laws.{only-within}
 use Rattle.logic.specs.Expressions.{Expr, nodes, written, temporal, code}
@@ -21,8 +20,7 @@ use Rattle.decks.specs.Answers.{Outcome, Got, Refused, refuse, afterwards}
 use Rattle.decks.proofs.Outcomes.{refuse-got, afterwards-got}
 use Rattle.decks.proofs.Complete.{left-more}
 use Rattle.decks.proofs.Stored.{total-more, equations-more}
-use Rattle.logic.proofs.Rights.{total-append}
-use Rattle.decks.specs.Stored.{leftsOf, endsOf, codes, HoldsEquations}
+use Rattle.decks.specs.Stored.{HoldsEquations}
 use Rattle.frames.specs.Hex.{number}
 use Rattle.frames.specs.Read.{DueInit, DueAny, DueEquation, DueCount, Sofar, begun, readExpr, wholeExpr, setLine, initLine, propertyLine, withEquation, equationLine, kindOf, lastLeft}
 use Rattle.decks.specs.Readings.{Reading, Whole, Wrong, Deep, leftSet}
@@ -31,7 +29,7 @@ use Rattle.lines.specs.declared.Number.the-variants.{Good, Bad}
 use Rattle.lines.specs.declared.Step.{Step}
 use Rattle.lines.specs.Steps.{numberRead, stepOf, nodesOf, Kept}
 use Rattle.lines.proofs.Laws.{whole-number-none, whole-number-some, pair-inside}
-use Rattle.lines.proofs.Steps.{whole-spans, whole-when, whole-next, length-nodesOf}
+use Rattle.lines.proofs.Steps.{whole-spans, whole-when, whole-next}
 use Rattle.decklines.specs.declared.Held.{Held}
 use Rattle.decklines.specs.declared.LineRead.{LineRead}
 use Rattle.decklines.specs.declared.ExprRead.{ExprRead}

@@ -1,8 +1,8 @@
 -- What the reader of decks holds of the lines so far.
 use mathlib.Core.Path.{_≡_}
-use mathlib.Core.Bool.{Bool, true, false}
+use mathlib.Core.Bool.{true, false}
 use mathlib.Core.List.{List}
-use Prim.Native.Nat.{ℕ, _+_, _-_, _*_, _<_, _≤_}
+use Prim.Native.Nat.{ℕ, _+_, _-_, _<_, _≤_}
 use lib.ListN.{length, drop, replicate}
 use Rattle.lists.specs.Lists.{padded, splice}
 use Rattle.logic.specs.Expressions.{Expr, nodes, written, temporal, code}
@@ -10,7 +10,7 @@ use Rattle.logic.specs.Decks.{base, totalNodes}
 use Rattle.decks.specs.declared.Answer.the-variants.{Fine}
 use Rattle.decks.specs.Answers.{Outcome, Got, Refused}
 use Rattle.decks.specs.Stored.{HoldsEquations}
-use Rattle.frames.specs.Read.{Due, DueSet, DueInit, DueAny, DueEquation, DueCount, DueNone, Sofar, begun, lastLeft}
+use Rattle.frames.specs.Read.{Due, DueSet, DueInit, DueAny, DueEquation, DueCount, DueNone, Sofar, lastLeft}
 use Rattle.decks.specs.Readings.{leftSet}
 use Rattle.lines.specs.Steps.{nodesOf}
 use Rattle.decklines.specs.declared.Held.{Held}

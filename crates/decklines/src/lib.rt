@@ -1,8 +1,8 @@
 // The lines of a deck, each judged and then stored.
 ghost use mathlib.Core.Path.{_≡_};
 ghost use mathlib.Core.Bool.{true, false, not};
-ghost use Prim.Native.Nat.{ℕ, _+_, _-_, _*_, _^_, _<_, _≤_};
-ghost use lib.ListN.{length, take, drop, replicate};
+ghost use Prim.Native.Nat.{_+_, _-_, _*_, _^_, _<_, _≤_};
+ghost use lib.ListN.{length, drop, replicate};
 ghost use Rattle.lists.specs.Lists.{stands, padded};
 ghost use Rattle.logic.specs.Expressions.{Expr};
 ghost use Rattle.logic.specs.Decks.{Deck, base};

@@ -1,6 +1,6 @@
 -- Laws of the reader of one expression.
 use mathlib.Core.Path.{_≡_, refl, sym, ap, _∙_, subst}
-use mathlib.Core.Logic.{_⊎_, inl, inr, ⊎-elim, by-cases}
+use mathlib.Core.Logic.{by-cases}
 use mathlib.Core.Bool.{Bool, true, false, _||_}
 use mathlib.Core.List.{List, [], _∷_, _++_}
 use Prim.Native.Nat.{ℕ, zero, suc, _+_, _-_, _*_, _/_, _%_, _^_, _<_, _≤_}
@@ -11,15 +11,14 @@ use lib.Dec.{ltb, leb}
 use lib.Pow.{pow-pos, pow-lt, pow-mono}
 use lib.Bits.{or-zero-l}
 use lib.Count.{trailingZeros, under}
-use lib.ListN.{length, take, drop, getD, set, length-drop, length-set, List·getD-eq-default}
+use lib.ListN.{length, drop, getD, set, length-drop, length-set, List·getD-eq-default}
 use lib.Seq.{drop-drop, set-out}
 use borrow.Author.Tests.{lt-ltb, le-ltb}
 use Rattle.lists.specs.Lists.{splice}
 use Rattle.lists.proofs.Laws.{splice-nothing, splice-splice, set-splice}
 use Rattle.sets.specs.Sets.{only, union, lowestOf}
 use Rattle.sets.proofs.Laws.{union-assoc}
-use Rattle.logic.specs.Expressions.{Expr, Op1, Op2, Const, Var, One, Two, Not, Next, Future, Always, And, Or, Until, Weak, nodes, written, temporal, node1, node2, code}
-use Rattle.frames.specs.Hex.{byteOf}
+use Rattle.logic.specs.Expressions.{Expr, Op1, Op2, Var, One, Two, nodes, written, temporal, node1, node2, code}
 use Rattle.frames.specs.Read.{Sign, Leaf, Before, Between, NoSign, signs, signOf, signed, levelled, begins, readExpr, kindOf}
 use Rattle.decks.specs.Readings.{Reading, Whole, Wrong, Deep, onward}
 use Rattle.lines.specs.Steps.{placesOf, leafVars, stepOf, nodeOf, nodesOf, Kept}
