@@ -2,15 +2,14 @@
 use mathlib.Core.Path.{_≡_, refl, sym, ap, _∙_, subst}
 use mathlib.Core.Bool.{Bool, true, false, not}
 use mathlib.Core.List.{List, [], _∷_, _++_}
-use Prim.Native.Nat.{ℕ, suc, _+_, _-_, _*_, _%_, _^_, _<_, _≤_}
+use Prim.Native.Nat.{ℕ, _+_, _-_, _*_, _%_, _^_, _<_, _≤_}
 use native.Mathlib.Omega.{arith}
-use native.Mathlib.Numerals.{add-one}
 use lib.Dec.{ltb}
-use lib.ListN.{length, take, drop, getD, set, replicate, length-append, length-drop, length-set, drop-of-length-le}
-use lib.Seq.{drop-cons, getD-take, length-take-le, drop-drop}
-use borrow.Author.Tests.{lt-ltb, le-ltb, eq-eqb, ne-eqb, not-false}
+use lib.ListN.{length, take, drop, set, replicate, length-append, length-drop, length-set}
+use lib.Seq.{drop-drop}
+use borrow.Author.Tests.{lt-ltb, le-ltb, not-false}
 use Rattle.lists.specs.Lists.{stands, padded, splice}
-use Rattle.lists.proofs.Laws.{padded-append, padded-snoc, padded-nil, take-padded, length-splice}
+use Rattle.lists.proofs.Laws.{padded-append, padded-snoc, padded-nil, take-padded}
 use Rattle.sets.specs.Sets.{has, inside, only, union}
 use Rattle.sets.proofs.Laws.{only-within}
 use Rattle.logic.specs.Expressions.{Expr, nodes, written, temporal, code}
@@ -21,21 +20,20 @@ use Rattle.decks.specs.Answers.{Outcome, Got, Refused, refuse, afterwards}
 use Rattle.decks.proofs.Outcomes.{refuse-got, afterwards-got}
 use Rattle.decks.proofs.Complete.{left-more}
 use Rattle.decks.proofs.Stored.{total-more, equations-more}
-use Rattle.logic.proofs.Rights.{total-append}
-use Rattle.decks.specs.Stored.{leftsOf, endsOf, codes, HoldsEquations}
+use Rattle.decks.specs.Stored.{HoldsEquations}
 use Rattle.frames.specs.Hex.{number}
 use Rattle.frames.specs.Read.{DueInit, DueAny, DueEquation, DueCount, Sofar, begun, readExpr, wholeExpr, setLine, initLine, propertyLine, withEquation, equationLine, kindOf, lastLeft}
 use Rattle.decks.specs.Readings.{Reading, Whole, Wrong, Deep, leftSet}
 use Rattle.lines.specs.declared.Number.{Number}
 use Rattle.lines.specs.declared.Number.the-variants.{Good, Bad}
 use Rattle.lines.specs.declared.Step.{Step}
-use Rattle.lines.specs.Steps.{numberRead, stepOf, nodesOf}
+use Rattle.lines.specs.Steps.{numberRead, stepOf, nodesOf, Kept}
 use Rattle.lines.proofs.Laws.{whole-number-none, whole-number-some, pair-inside}
-use Rattle.lines.proofs.Steps.{whole-spans, whole-when, whole-next, length-nodesOf}
+use Rattle.lines.proofs.Steps.{whole-spans, whole-when, whole-next}
 use Rattle.decklines.specs.declared.Held.{Held}
 use Rattle.decklines.specs.declared.LineRead.{LineRead}
 use Rattle.decklines.specs.declared.ExprRead.{ExprRead}
-use Rattle.decklines.specs.Held.{heldOf, lineOf, exprOf, InitCame, PropertyCame, EquationCame, Room}
+use Rattle.decklines.specs.Held.{heldOf, lineOf, exprOf, InitCame, PropertyCame, EquationCame, Room, Stored}
 
 abbrev pub held : ℕ → ℕ → ℕ → ℕ → ℕ → ℕ → ℕ → ℕ → Held
 held d v i e u l c z = record { due = d; vars = v; initials = i; equations = e; used = u; last = l; covered = c; size = z }
@@ -119,8 +117,14 @@ module _ (cs : List ℕ) (n : ℕ) (h : Held) (x : Number) (inits : List ℕ) (s
 
 -- ---- expressions
 
+pub expression-unkept : (r : ExprRead) (a : Answer) (line : List ℕ) (at used : ℕ) (was out : List ℕ) → r ≡ exprOf (Refused a) → not (r .fine) ≡ false → Kept line at used (r .nodes) was out
+expression-unkept r a line at used was out e q = let z : true ≡ false = ap (λ (k : ExprRead). not (k .fine)) (sym e) ∙ q in let w : _≡_ {A = ℕ} 0 1 = cc in absurd (omega arith)
+
 pub expression-none : (line : List ℕ) (at : ℕ) (r : ExprRead) (a : Answer) → at ≤ length line → r ≡ exprOf (Refused a) → at + 2 * r .nodes ≤ length line
 expression-none line at r a h q = omega (arith, ap (λ (k : ExprRead). k .nodes) q)
+
+pub expression-kept : (line : List ℕ) (at used : ℕ) (e : Step) (was out : List ℕ) → (e .stop ≡ 0 → Kept line at used (e .nodes) was out) → e .stop ≡ 0 → Kept line at used (e .nodes) was out
+expression-kept line at used e was out f q = f q
 
 module _ (line : List ℕ) (at n : ℕ) (e : Step) where
   abbrev pub Read : Type 0
@@ -226,9 +230,9 @@ module _ (cs : List ℕ) (n : ℕ) (h : Held) (e : ExprRead) (s : Sofar) where
         let z : propertyLine n cs (s .deck) ≡ Refused (ManyNodes n) = simp (y .1, w, lt-ltb 128 (nodes (y .0)) l, propertyLine) in
         property-refused-as (propertyLine n cs (s .deck)) (ManyNodes n) r out z f
 
-    pub property-fine : (property out : List ℕ) → h ≡ heldOf s → property ≡ replicate 128 0 → e ≡ exprOf (wholeExpr n cs) → not (e .fine) ≡ false → b ≡ inside (e .vars) (h .vars) → not b ≡ false → e .nodes ≤ 128 → out ≡ splice 0 (nodesOf (e .nodes) cs) property → PropertyCame (propertyLine n cs (s .deck)) (went (held 4 (h .vars) (h .initials) (h .equations) (h .used) (h .last) (h .covered) (e .nodes))) out
+    property-stored : (property out : List ℕ) → h ≡ heldOf s → property ≡ replicate 128 0 → e ≡ exprOf (wholeExpr n cs) → not (e .fine) ≡ false → b ≡ inside (e .vars) (h .vars) → not b ≡ false → e .nodes ≤ 128 → out ≡ splice 0 (nodesOf (e .nodes) cs) property → PropertyCame (propertyLine n cs (s .deck)) (went (held 4 (h .vars) (h .initials) (h .equations) (h .used) (h .last) (h .covered) (e .nodes))) out
     unfolding propertyLine
-    property-fine property out i j p q g u m f =
+    property-stored property out i j p q g u m f =
         let d : Deck = s .deck in
         let y = expr-got (wholeExpr n cs) e p q in
         let w : not (inside (written (y .0)) (d .vars)) ≡ false = ap not (within (y .0) i (y .3) g) ∙ u in
@@ -240,6 +244,9 @@ module _ (cs : List ℕ) (n : ℕ) (h : Held) (e : ExprRead) (s : Sofar) where
           line-is = ap (λ (k : ℕ). went (held 4 (h .vars) (h .initials) (h .equations) (h .used) (h .last) (h .covered) k)) (y .2) ∙ ap (λ (k : Held). went (held 4 (k .vars) (k .initials) (k .equations) (k .used) (k .last) (k .covered) (nodes (y .0)))) i;
           property-is = f ∙ ap (λ (k : List ℕ). splice 0 k property) stored ∙ ap (splice 0 (code (y .0))) (j ∙ sym (padded-nil 128)) ∙ padded-append 128 [] (code (y .0));
         })
+
+pub property-fine : (line : List ℕ) (n : ℕ) (h : Held) (e : ExprRead) (s : Sofar) (b : Bool) (property out : List ℕ) → h ≡ heldOf s → property ≡ replicate 128 0 → length property ≡ 128 → e ≡ exprOf (wholeExpr n (drop 2 line)) → not (e .fine) ≡ false → (not (e .fine) ≡ false → Kept line 2 0 (e .nodes) property out) → b ≡ inside (e .vars) (h .vars) → not b ≡ false → e .nodes ≤ 128 → PropertyCame (propertyLine n (drop 2 line) (s .deck)) (went (held 4 (h .vars) (h .initials) (h .equations) (h .used) (h .last) (h .covered) (e .nodes))) out
+property-fine line n h e s b property out i j l p q k g u m = property-stored (drop 2 line) n h e s b property out i j p q g u m (k q .nodes-are (omega arith))
 
 -- ---- one equation more
 
@@ -287,101 +294,119 @@ module _ (line : List ℕ) (n v : ℕ) (h : Held) (s : Sofar) where
     pub equation-refused : (r : LineRead) → h ≡ heldOf s → v ≡ kindOf (drop 2 line) → v < 64 → h .last ≤ v → e ≡ exprOf (wholeExpr n (drop 4 line)) → not (e .fine) ≡ true → r ≡ lineOf (Refused (e .answer)) → r ≡ lineOf (equationLine n (drop 2 line) (s .deck))
     equation-refused r i p k l x y q = q ∙ ap lineOf (sym (rises i p k l ∙ ap (λ (o : Outcome Expr). afterwards o (λ e. withEquation n (s .deck) (record { left = v; right = e }))) (expr-stopped (wholeExpr n (drop 4 line)) e x y)))
 
-    -- What 9, 10, 13 and 14 are asked of.
-    record Asked (d : Deck) (m g : Bool) : Type 0 where
-      pub its : Expr
-      pub read-as : wholeExpr n (drop 4 line) ≡ Got its
-      pub line-as : equationLine n (drop 2 line) d ≡ withEquation n d (record { left = v; right = its })
-      pub nodes-as : e .nodes ≡ nodes its
-      pub left-as : has (d .vars) v ≡ m
-      pub vars-as : inside (written its) (d .vars) ≡ g
-      pub temporal-as : temporal its ≡ e .temporal
-
-    asked : (m g : Bool) → h ≡ heldOf s → v ≡ kindOf (drop 2 line) → v < 64 → h .last ≤ v → e ≡ exprOf (wholeExpr n (drop 4 line)) → not (e .fine) ≡ false → m ≡ has (h .vars) v → g ≡ inside (e .vars) (h .vars) → Asked (s .deck) m g
-    asked m g i p k l x y a b =
+    pub equation-passed : (r : LineRead) → h ≡ heldOf s → v ≡ kindOf (drop 2 line) → v < 64 → h .last ≤ v → e ≡ exprOf (wholeExpr n (drop 4 line)) → not (e .fine) ≡ false → ((t : Sofar) (x : Expr) → h ≡ heldOf t → e ≡ exprOf (Got x) → r ≡ lineOf (withEquation n (t .deck) (record { left = v; right = x }))) → r ≡ lineOf (equationLine n (drop 2 line) (s .deck))
+    equation-passed r i p k l x y f =
         let w = expr-got (wholeExpr n (drop 4 line)) e x y in
-        record {
-          its = w .0;
-          read-as = w .1;
-          line-as = rises i p k l ∙ ap (λ (o : Outcome Expr). afterwards o (λ e. withEquation n (s .deck) (record { left = v; right = e }))) (w .1);
-          nodes-as = w .2;
-          left-as = sym (a ∙ ap (λ (y : Held). has (y .vars) v) i);
-          vars-as = sym (b ∙ ap (λ (k : ℕ). inside k (h .vars)) (w .3) ∙ ap (λ (y : Held). inside (written (w .0)) (y .vars)) i);
-          temporal-as = sym (w .4);
-        }
+        f s (w .0) i (x ∙ ap exprOf (w .1)) ∙ ap lineOf (sym (rises i p k l ∙ ap (λ (o : Outcome Expr). afterwards o (λ e. withEquation n (s .deck) (record { left = v; right = e }))) (w .1)))
 
-    module _ (m g : Bool) (w : Asked (s .deck) m g) where
-      left-out : not m ≡ true → equationLine n (drop 2 line) (s .deck) ≡ Refused (Outside 1 n)
+module _ (n v : ℕ) (h : Held) (s : Sofar) (e : ExprRead) (x : Expr) where
+  abbrev q : Equation
+  q = record { left = v; right = x }
+
+  -- What 9, 10, 13 and 14 are asked of.
+  record Asked (d : Deck) (m g : Bool) : Type 0 where
+    pub nodes-as : e .nodes ≡ nodes x
+    pub left-as : has (d .vars) v ≡ m
+    pub vars-as : inside (written x) (d .vars) ≡ g
+    pub temporal-as : temporal x ≡ e .temporal
+
+  asked : (m g : Bool) → h ≡ heldOf s → e ≡ exprOf (Got x) → m ≡ has (h .vars) v → g ≡ inside (e .vars) (h .vars) → Asked (s .deck) m g
+  asked m g i p a b =
+      record {
+        nodes-as = ap (λ (k : ExprRead). k .nodes) p;
+        left-as = sym (a ∙ ap (λ (y : Held). has (y .vars) v) i);
+        vars-as = sym (b ∙ ap (λ (k : ExprRead). inside (k .vars) (h .vars)) p ∙ ap (λ (y : Held). inside (written x) (y .vars)) i);
+        temporal-as = sym (ap (λ (k : ExprRead). k .temporal) p);
+      }
+
+  module _ (m : Bool) where
+    pub equation-left : (r : LineRead) → h ≡ heldOf s → e ≡ exprOf (Got x) → m ≡ has (h .vars) v → not m ≡ true → r ≡ lineOf (Refused (Outside 1 n)) → r ≡ lineOf (withEquation n (s .deck) q)
+    unfolding withEquation
+    equation-left r i p a t f =
+        let w : Asked (s .deck) m (inside (e .vars) (h .vars)) = asked m (inside (e .vars) (h .vars)) i p a refl in
+        let z : withEquation n (s .deck) q ≡ Refused (Outside 1 n) = simp (ap not (w .left-as) ∙ t, withEquation) in
+        f ∙ ap lineOf (sym z)
+
+    module _ (g : Bool) where
+      pub equation-vars : (r : LineRead) → h ≡ heldOf s → e ≡ exprOf (Got x) → m ≡ has (h .vars) v → not m ≡ false → g ≡ inside (e .vars) (h .vars) → not g ≡ true → r ≡ lineOf (Refused (Outside 1 n)) → r ≡ lineOf (withEquation n (s .deck) q)
       unfolding withEquation
-      left-out a = w .line-as ∙ simp (ap not (w .left-as) ∙ a, withEquation)
+      equation-vars r i p a t b u f =
+          let w : Asked (s .deck) m g = asked m g i p a b in
+          let z : withEquation n (s .deck) q ≡ Refused (Outside 1 n) = simp (ap not (w .left-as) ∙ t, ap not (w .vars-as) ∙ u, withEquation) in
+          f ∙ ap lineOf (sym z)
 
-      vars-out : not m ≡ false → not g ≡ true → equationLine n (drop 2 line) (s .deck) ≡ Refused (Outside 1 n)
+      pub equation-temporal : (r : LineRead) → h ≡ heldOf s → e ≡ exprOf (Got x) → m ≡ has (h .vars) v → not m ≡ false → g ≡ inside (e .vars) (h .vars) → not g ≡ false → e .temporal ≡ true → r ≡ lineOf (Refused (Temporal n)) → r ≡ lineOf (withEquation n (s .deck) q)
       unfolding withEquation
-      vars-out a b = w .line-as ∙ simp (ap not (w .left-as) ∙ a, ap not (w .vars-as) ∙ b, withEquation)
+      equation-temporal r i p a t b u c f =
+          let w : Asked (s .deck) m g = asked m g i p a b in
+          let z : withEquation n (s .deck) q ≡ Refused (Temporal n) = simp (ap not (w .left-as) ∙ t, ap not (w .vars-as) ∙ u, w .temporal-as ∙ c, withEquation) in
+          f ∙ ap lineOf (sym z)
 
-      not-plain : not m ≡ false → not g ≡ false → e .temporal ≡ true → equationLine n (drop 2 line) (s .deck) ≡ Refused (Temporal n)
+      pub equation-many : (r : LineRead) → h ≡ heldOf s → e ≡ exprOf (Got x) → m ≡ has (h .vars) v → not m ≡ false → g ≡ inside (e .vars) (h .vars) → not g ≡ false → e .temporal ≡ false → 256 < h .equations + 1 → r ≡ lineOf (Refused (ManyEquations n)) → r ≡ lineOf (withEquation n (s .deck) q)
       unfolding withEquation
-      not-plain a b c = w .line-as ∙ simp (ap not (w .left-as) ∙ a, ap not (w .vars-as) ∙ b, w .temporal-as ∙ c, withEquation)
+      equation-many r i p a t b u c d f =
+          let w : Asked (s .deck) m g = asked m g i p a b in
+          let many : 256 < length (s .deck .equations) + 1 = omega (arith, d, ap (λ (j : Held). j .equations) i) in
+          let z : withEquation n (s .deck) q ≡ Refused (ManyEquations n) = simp (ap not (w .left-as) ∙ t, ap not (w .vars-as) ∙ u, w .temporal-as ∙ c, lt-ltb 256 (length (s .deck .equations) + 1) many, withEquation) in
+          f ∙ ap lineOf (sym z)
 
-      too-many : not m ≡ false → not g ≡ false → e .temporal ≡ false → 256 < length (s .deck .equations) + 1 → equationLine n (drop 2 line) (s .deck) ≡ Refused (ManyEquations n)
+      pub equation-nodes : (r : LineRead) → h ≡ heldOf s → e ≡ exprOf (Got x) → m ≡ has (h .vars) v → not m ≡ false → g ≡ inside (e .vars) (h .vars) → not g ≡ false → e .temporal ≡ false → h .equations + 1 ≤ 256 → 2048 < h .used + e .nodes → r ≡ lineOf (Refused (ManyNodes n)) → r ≡ lineOf (withEquation n (s .deck) q)
       unfolding withEquation
-      too-many a b c d = w .line-as ∙ simp (ap not (w .left-as) ∙ a, ap not (w .vars-as) ∙ b, w .temporal-as ∙ c, lt-ltb 256 (length (s .deck .equations) + 1) d, withEquation)
+      equation-nodes r i p a t b u c d k f =
+          let w : Asked (s .deck) m g = asked m g i p a b in
+          let few : length (s .deck .equations) + 1 ≤ 256 = omega (arith, d, ap (λ (j : Held). j .equations) i) in
+          let large : 2048 < totalNodes (s .deck .equations) + nodes x = omega (arith, k, w .nodes-as, ap (λ (j : Held). j .used) i) in
+          let z : withEquation n (s .deck) q ≡ Refused (ManyNodes n) = simp (ap not (w .left-as) ∙ t, ap not (w .vars-as) ∙ u, w .temporal-as ∙ c, le-ltb 256 (length (s .deck .equations) + 1) few, lt-ltb 2048 (totalNodes (s .deck .equations) + nodes x) large, withEquation) in
+          f ∙ ap lineOf (sym z)
 
-      too-large : not m ≡ false → not g ≡ false → e .temporal ≡ false → length (s .deck .equations) + 1 ≤ 256 → 2048 < totalNodes (s .deck .equations) + nodes (w .its) → equationLine n (drop 2 line) (s .deck) ≡ Refused (ManyNodes n)
+      pub equation-taken : (only-v c : ℕ) → v < 64 → h ≡ heldOf s → e ≡ exprOf (Got x) → m ≡ has (h .vars) v → not m ≡ false → g ≡ inside (e .vars) (h .vars) → not g ≡ false → e .temporal ≡ false → h .equations + 1 ≤ 256 → h .used + e .nodes ≤ 2048 → only-v ≡ only v % 2 ^ 64 → c ≡ union (h .covered) only-v → went (held 3 (h .vars) (h .initials) (h .equations + 1) (h .used + e .nodes) v c 0) ≡ lineOf (withEquation n (s .deck) q)
       unfolding withEquation
-      too-large a b c d k = w .line-as ∙ simp (ap not (w .left-as) ∙ a, ap not (w .vars-as) ∙ b, w .temporal-as ∙ c, le-ltb 256 (length (s .deck .equations) + 1) d, lt-ltb 2048 (totalNodes (s .deck .equations) + nodes (w .its)) k, withEquation)
+      equation-taken only-v c l i p a t b u o d f z j =
+          let w : Asked (s .deck) m g = asked m g i p a b in
+          let D : Deck = s .deck in
+          let few : length (D .equations) + 1 ≤ 256 = omega (arith, d, ap (λ (j : Held). j .equations) i) in
+          let small : totalNodes (D .equations) + nodes x ≤ 2048 = omega (arith, f, w .nodes-as, ap (λ (j : Held). j .used) i) in
+          let got : withEquation n D q ≡ Got (record { due = DueEquation; deck = record { vars = D .vars; inits = D .inits; equations = D .equations ++ (q ∷ []); property = D .property } }) = simp (ap not (w .left-as) ∙ t, ap not (w .vars-as) ∙ u, w .temporal-as ∙ o, le-ltb 256 (length (D .equations) + 1) few, le-ltb 2048 (totalNodes (D .equations) + nodes x) small, withEquation) in
+          let count : h .equations + 1 ≡ length (D .equations ++ (q ∷ [])) = omega (arith, ap (λ (j : Held). j .equations) i, length-append (D .equations) (q ∷ [])) in
+          let used : h .used + e .nodes ≡ totalNodes (D .equations ++ (q ∷ [])) = omega (arith, ap (λ (j : Held). j .used) i, w .nodes-as, total-more q (D .equations)) in
+          let last : v ≡ lastLeft (D .equations ++ (q ∷ [])) = sym (last-more q (D .equations)) in
+          let covered : c ≡ leftSet (D .equations ++ (q ∷ [])) = j ∙ ap (union (h .covered)) (only-within v only-v z l) ∙ ap (λ (y : Held). union (y .covered) (only v)) i ∙ sym (left-more q (D .equations)) in
+          ap (λ (y : ℕ). went (held 3 (h .vars) (h .initials) y (h .used + e .nodes) v c 0)) count
+          ∙ ap (λ (y : ℕ). went (held 3 (h .vars) (h .initials) (length (D .equations ++ (q ∷ []))) y v c 0)) used
+          ∙ ap (λ (y : ℕ). went (held 3 (h .vars) (h .initials) (length (D .equations ++ (q ∷ []))) (totalNodes (D .equations ++ (q ∷ []))) y c 0)) last
+          ∙ ap (λ (y : ℕ). went (held 3 (h .vars) (h .initials) (length (D .equations ++ (q ∷ []))) (totalNodes (D .equations ++ (q ∷ []))) (lastLeft (D .equations ++ (q ∷ []))) y 0)) covered
+          ∙ ap (λ (y : Held). went (held 3 (y .vars) (y .initials) (length (D .equations ++ (q ∷ []))) (totalNodes (D .equations ++ (q ∷ []))) (lastLeft (D .equations ++ (q ∷ []))) (leftSet (D .equations ++ (q ∷ []))) 0)) i
+          ∙ ap lineOf (sym got)
 
-      taken : not m ≡ false → not g ≡ false → e .temporal ≡ false → length (s .deck .equations) + 1 ≤ 256 → totalNodes (s .deck .equations) + nodes (w .its) ≤ 2048 → equationLine n (drop 2 line) (s .deck) ≡ Got (record { due = DueEquation; deck = record { vars = s .deck .vars; inits = s .deck .inits; equations = s .deck .equations ++ (record { left = v; right = w .its } ∷ []); property = s .deck .property } })
-      unfolding withEquation
-      taken a b c d k = w .line-as ∙ simp (ap not (w .left-as) ∙ a, ap not (w .vars-as) ∙ b, w .temporal-as ∙ c, le-ltb 256 (length (s .deck .equations) + 1) d, le-ltb 2048 (totalNodes (s .deck .equations) + nodes (w .its)) k, withEquation)
+-- A line refused has no room to show, and nothing stored.
+refused-fine : {P : Type 0} (r : LineRead) (a : Answer) → r ≡ lineOf (Refused a) → r .fine ≡ true → P
+refused-fine r a e q = let z : false ≡ true = sym (ap (λ (k : LineRead). k .fine) e) ∙ q in let w : _≡_ {A = ℕ} 0 1 = cc in absurd (omega arith)
 
-    module _ (m : Bool) where
-      pub equation-left : (r : LineRead) → h ≡ heldOf s → v ≡ kindOf (drop 2 line) → v < 64 → h .last ≤ v → e ≡ exprOf (wholeExpr n (drop 4 line)) → not (e .fine) ≡ false → m ≡ has (h .vars) v → not m ≡ true → r ≡ lineOf (Refused (Outside 1 n)) → r ≡ lineOf (equationLine n (drop 2 line) (s .deck))
-      equation-left r i p k l x y a t q = q ∙ ap lineOf (sym (left-out m (inside (e .vars) (h .vars)) (asked m (inside (e .vars) (h .vars)) i p k l x y a refl) t))
+pub no-room : (v : ℕ) (h : Held) (e : ExprRead) (r : LineRead) (a : Answer) → r ≡ lineOf (Refused a) → r .fine ≡ true → Room v h e r
+no-room v h e r a = refused-fine r a
 
-      module _ (g : Bool) where
-        pub equation-vars : (r : LineRead) → h ≡ heldOf s → v ≡ kindOf (drop 2 line) → v < 64 → h .last ≤ v → e ≡ exprOf (wholeExpr n (drop 4 line)) → not (e .fine) ≡ false → m ≡ has (h .vars) v → not m ≡ false → g ≡ inside (e .vars) (h .vars) → not g ≡ true → r ≡ lineOf (Refused (Outside 1 n)) → r ≡ lineOf (equationLine n (drop 2 line) (s .deck))
-        equation-vars r i p k l x y a t b u q = q ∙ ap lineOf (sym (vars-out m g (asked m g i p k l x y a b) t u))
-
-        pub equation-temporal : (r : LineRead) → h ≡ heldOf s → v ≡ kindOf (drop 2 line) → v < 64 → h .last ≤ v → e ≡ exprOf (wholeExpr n (drop 4 line)) → not (e .fine) ≡ false → m ≡ has (h .vars) v → not m ≡ false → g ≡ inside (e .vars) (h .vars) → not g ≡ false → e .temporal ≡ true → r ≡ lineOf (Refused (Temporal n)) → r ≡ lineOf (equationLine n (drop 2 line) (s .deck))
-        equation-temporal r i p k l x y a t b u c q = q ∙ ap lineOf (sym (not-plain m g (asked m g i p k l x y a b) t u c))
-
-        pub equation-many : (r : LineRead) → h ≡ heldOf s → v ≡ kindOf (drop 2 line) → v < 64 → h .last ≤ v → e ≡ exprOf (wholeExpr n (drop 4 line)) → not (e .fine) ≡ false → m ≡ has (h .vars) v → not m ≡ false → g ≡ inside (e .vars) (h .vars) → not g ≡ false → e .temporal ≡ false → 256 < h .equations + 1 → r ≡ lineOf (Refused (ManyEquations n)) → r ≡ lineOf (equationLine n (drop 2 line) (s .deck))
-        equation-many r i p k l x y a t b u c d q = q ∙ ap lineOf (sym (too-many m g (asked m g i p k l x y a b) t u c (omega (arith, d, ap (λ (j : Held). j .equations) i))))
-
-        pub equation-nodes : (r : LineRead) → h ≡ heldOf s → v ≡ kindOf (drop 2 line) → v < 64 → h .last ≤ v → e ≡ exprOf (wholeExpr n (drop 4 line)) → not (e .fine) ≡ false → m ≡ has (h .vars) v → not m ≡ false → g ≡ inside (e .vars) (h .vars) → not g ≡ false → e .temporal ≡ false → h .equations + 1 ≤ 256 → 2048 < h .used + e .nodes → r ≡ lineOf (Refused (ManyNodes n)) → r ≡ lineOf (equationLine n (drop 2 line) (s .deck))
-        equation-nodes r i p k l x y a t b u c d f q =
-            let w : Asked (s .deck) m g = asked m g i p k l x y a b in
-            q ∙ ap lineOf (sym (too-large m g w t u c (omega (arith, d, ap (λ (j : Held). j .equations) i)) (omega (arith, f, w .nodes-as, ap (λ (j : Held). j .used) i))))
-
-        pub equation-taken : (only-v c : ℕ) → h ≡ heldOf s → v ≡ kindOf (drop 2 line) → v < 64 → h .last ≤ v → e ≡ exprOf (wholeExpr n (drop 4 line)) → not (e .fine) ≡ false → m ≡ has (h .vars) v → not m ≡ false → g ≡ inside (e .vars) (h .vars) → not g ≡ false → e .temporal ≡ false → h .equations + 1 ≤ 256 → h .used + e .nodes ≤ 2048 → only-v ≡ only v % 2 ^ 64 → c ≡ union (h .covered) only-v → went (held 3 (h .vars) (h .initials) (h .equations + 1) (h .used + e .nodes) v c 0) ≡ lineOf (equationLine n (drop 2 line) (s .deck))
-        equation-taken only-v c i p k l x y a t b u o d f z j =
-            let w : Asked (s .deck) m g = asked m g i p k l x y a b in
-            let D : Deck = s .deck in
-            let q : Equation = record { left = v; right = w .its } in
-            let got = taken m g w t u o (omega (arith, d, ap (λ (j : Held). j .equations) i)) (omega (arith, f, w .nodes-as, ap (λ (j : Held). j .used) i)) in
-            let count : h .equations + 1 ≡ length (D .equations ++ (q ∷ [])) = omega (arith, ap (λ (j : Held). j .equations) i, length-append (D .equations) (q ∷ [])) in
-            let used : h .used + e .nodes ≡ totalNodes (D .equations ++ (q ∷ [])) = omega (arith, ap (λ (j : Held). j .used) i, w .nodes-as, total-more q (D .equations)) in
-            let last : v ≡ lastLeft (D .equations ++ (q ∷ [])) = sym (last-more q (D .equations)) in
-            let covered : c ≡ leftSet (D .equations ++ (q ∷ [])) = j ∙ ap (union (h .covered)) (only-within v only-v z k) ∙ ap (λ (y : Held). union (y .covered) (only v)) i ∙ sym (left-more q (D .equations)) in
-            ap (λ (y : ℕ). went (held 3 (h .vars) (h .initials) y (h .used + e .nodes) v c 0)) count
-            ∙ ap (λ (y : ℕ). went (held 3 (h .vars) (h .initials) (length (D .equations ++ (q ∷ []))) y v c 0)) used
-            ∙ ap (λ (y : ℕ). went (held 3 (h .vars) (h .initials) (length (D .equations ++ (q ∷ []))) (totalNodes (D .equations ++ (q ∷ []))) y c 0)) last
-            ∙ ap (λ (y : ℕ). went (held 3 (h .vars) (h .initials) (length (D .equations ++ (q ∷ []))) (totalNodes (D .equations ++ (q ∷ []))) (lastLeft (D .equations ++ (q ∷ []))) y 0)) covered
-            ∙ ap (λ (y : Held). went (held 3 (y .vars) (y .initials) (length (D .equations ++ (q ∷ []))) (totalNodes (D .equations ++ (q ∷ []))) (lastLeft (D .equations ++ (q ∷ []))) (leftSet (D .equations ++ (q ∷ []))) 0)) i
-            ∙ ap lineOf (sym got)
-
--- A line refused has no room to show.
-pub no-room : (line : List ℕ) (h : Held) (r : LineRead) (a : Answer) → r ≡ lineOf (Refused a) → r .fine ≡ true → Room line h r
-no-room line h r a e q = let z : false ≡ true = sym (ap (λ (k : LineRead). k .fine) e) ∙ q in let w : _≡_ {A = ℕ} 0 1 = cc in absurd (omega arith)
+pub none-stored : (line : List ℕ) (h : Held) (r : LineRead) (was out : List ℕ) (a : Answer) → r ≡ lineOf (Refused a) → r .fine ≡ true → Stored line h r was out
+none-stored line h r was out a = refused-fine r a
 
 -- A variable's pair stands within the line.
 pub variable-within : (line : List ℕ) (v : ℕ) → v ≡ kindOf (drop 2 line) → v < 64 → 4 ≤ length line
 variable-within line v e h = pair-inside line 2 v e (omega arith)
 
 -- A line that passed 13 and 14 has room.
-pub has-room : (line : List ℕ) (h : Held) (e : ExprRead) (v c : ℕ) → v < 64 → h .equations + 1 ≤ 256 → h .used + e .nodes ≤ 2048 → 4 + 2 * e .nodes ≤ length line → Room line h (went (held 3 (h .vars) (h .initials) (h .equations + 1) (h .used + e .nodes) v c 0))
-has-room line h e v c p q m w = record { few = omega arith; most = m; grows = omega arith; within = omega arith; left-fits = p }
+pub has-room : (v : ℕ) (h : Held) (e : ExprRead) (c : ℕ) → h .equations + 1 ≤ 256 → h .used + e .nodes ≤ 2048 → Room v h e (went (held 3 (h .vars) (h .initials) (h .equations + 1) (h .used + e .nodes) v c 0))
+has-room v h e c q m = record { few = omega arith; most = m; used-is = refl; last-is = refl }
+
+-- The nodes of an equation that has room are stored.
+pub nodes-stored : (line : List ℕ) (v : ℕ) (h : Held) (e : ExprRead) (r : LineRead) (was out : List ℕ) → v < 64 → length was ≡ 2048 → not (e .fine) ≡ false → (not (e .fine) ≡ false → Kept line 4 (h .used) (e .nodes) was out) → (r .fine ≡ true → Room v h e r) → r .fine ≡ true → Stored line h r was out
+nodes-stored line v h e r was out p w f k g q =
+    let room : Room v h e r = g q in
+    let own : e .nodes ≡ r .held .used - h .used = omega (arith, room .used-is) in
+    record {
+      few = room .few;
+      most = room .most;
+      left-fits = omega (arith, p, room .last-is);
+      nodes-are = k f .nodes-are (omega (arith, room .used-is, room .most, w)) ∙ ap (λ (x : ℕ). splice (h .used) (nodesOf x (drop 4 line)) was) own;
+    }
 
 -- ---- 03 stored
 
@@ -423,13 +448,14 @@ module _ (line : List ℕ) (n : ℕ) (h : Held) (r : LineRead) (s : Sofar) where
       go (Got t) e = let z : false ≡ true = ap (λ (k : LineRead). not (k .fine)) (sym e) ∙ f in let w : _≡_ {A = ℕ} 0 1 = cc in absurd (omega arith)
       go (Refused a) e = record { line-is = e; equations-are = tt }
 
-  pub equation-stored : (lefts ends nodes′ lefts″ ends″ nodes″ : List ℕ) → h ≡ heldOf s → HoldsEquations (s .deck .equations) lefts ends nodes′ (length (s .deck .equations)) → Judged → h .equations < 256 → not (r .fine) ≡ false → lefts″ ≡ set lefts (h .equations) (r .held .last) → ends″ ≡ set ends (h .equations) (r .held .used) → nodes″ ≡ splice (h .used) (nodesOf (r .held .used - h .used) (drop 4 line)) nodes′ → EquationCame (equationLine n (drop 2 line) (s .deck)) r lefts″ ends″ nodes″
-  equation-stored lefts ends nodes′ lefts″ ends″ nodes″ i a j k f p q m = go (equationLine n (drop 2 line) (s .deck)) refl (j s i)
+  pub equation-stored : (lefts ends nodes′ lefts″ ends″ nodes″ : List ℕ) → h ≡ heldOf s → HoldsEquations (s .deck .equations) lefts ends nodes′ (length (s .deck .equations)) → Judged → (r .fine ≡ true → Stored line h r nodes′ nodes″) → not (r .fine) ≡ false → lefts″ ≡ set lefts (h .equations) (r .held .last) → ends″ ≡ set ends (h .equations) (r .held .used) → EquationCame (equationLine n (drop 2 line) (s .deck)) r lefts″ ends″ nodes″
+  equation-stored lefts ends nodes′ lefts″ ends″ nodes″ i a j k f p q = go (equationLine n (drop 2 line) (s .deck)) refl (j s i)
     where
       go : (o : Outcome Sofar) → equationLine n (drop 2 line) (s .deck) ≡ o → r ≡ lineOf o → EquationCame o r lefts″ ends″ nodes″
       go (Refused b) g e = let z : true ≡ false = ap (λ (k : LineRead). not (k .fine)) (sym e) ∙ f in let w : _≡_ {A = ℕ} 0 1 = cc in absurd (omega arith)
       go (Got t) g e =
           let qs : List Equation = s .deck .equations in
+          let has : Stored line h r nodes′ nodes″ = k (not-false (r .fine) f) in
           let w = equation-got n (drop 2 line) (s .deck) t g in
           let x : Equation = record { left = kindOf (drop 2 line); right = w .0 } in
           let fill : wholeExpr n (drop 4 line) ≡ Got (w .0) = ap (wholeExpr n) (sym (drop-drop 2 2 line)) ∙ w .1 in
@@ -438,10 +464,10 @@ module _ (line : List ℕ) (n : ℕ) (h : Held) (r : LineRead) (s : Sofar) where
           let last : r .held .last ≡ x .left = ap (λ (y : LineRead). y .held .last) e ∙ ap lastLeft (w .2) ∙ last-more x qs in
           let used : r .held .used ≡ totalNodes qs + nodes (w .0) = ap (λ (y : LineRead). y .held .used) e ∙ ap totalNodes (w .2) ∙ total-more x qs in
           let own : r .held .used - h .used ≡ nodes (w .0) = omega (arith, used, before) in
-          let more = equations-more qs x lefts ends nodes′ (length qs) (omega (arith, k, count)) a in
+          let more = equations-more qs x lefts ends nodes′ (length qs) (omega (arith, has .few, count)) a in
           let pl : lefts″ ≡ set lefts (length qs) (x .left) = p ∙ ap (λ (y : ℕ). set lefts y (r .held .last)) count ∙ ap (set lefts (length qs)) last in
           let pe : ends″ ≡ set ends (length qs) (totalNodes qs + nodes (w .0)) = q ∙ ap (λ (y : ℕ). set ends y (r .held .used)) count ∙ ap (set ends (length qs)) used in
-          let pn : nodes″ ≡ splice (totalNodes qs) (code (w .0)) nodes′ = m ∙ ap (λ (y : ℕ). splice y (nodesOf (r .held .used - h .used) (drop 4 line)) nodes′) before ∙ ap (λ (y : List ℕ). splice (totalNodes qs) y nodes′) (ap (λ (y : ℕ). nodesOf y (drop 4 line)) own ∙ filled n (drop 4 line) (w .0) fill) in
+          let pn : nodes″ ≡ splice (totalNodes qs) (code (w .0)) nodes′ = has .nodes-are ∙ ap (λ (y : ℕ). splice y (nodesOf (r .held .used - h .used) (drop 4 line)) nodes′) before ∙ ap (λ (y : List ℕ). splice (totalNodes qs) y nodes′) (ap (λ (y : ℕ). nodesOf y (drop 4 line)) own ∙ filled n (drop 4 line) (w .0) fill) in
           record {
             line-is = e;
             equations-are =
@@ -449,11 +475,15 @@ module _ (line : List ℕ) (n : ℕ) (h : Held) (r : LineRead) (s : Sofar) where
                 (record { lefts-are = pl ∙ more .lefts-are; ends-are = pe ∙ more .ends-are; nodes-are = pn ∙ more .nodes-are; count-is = refl });
           }
 
-pub the-room : (line : List ℕ) (h : Held) (r : LineRead) → (r .fine ≡ true → Room line h r) → not (r .fine) ≡ false → Room line h r
-the-room line h r f e = f (not-false (r .fine) e)
+module _ (line : List ℕ) (h : Held) (r : LineRead) (was out : List ℕ) where
+  pub last-fits : (r .fine ≡ true → Stored line h r was out) → not (r .fine) ≡ false → r .held .last < 2 ^ 16
+  last-fits f e = omega (arith, f (not-false (r .fine) e) .left-fits)
+
+  pub used-fits : (r .fine ≡ true → Stored line h r was out) → not (r .fine) ≡ false → r .held .used < 2 ^ 16
+  used-fits f e = omega (arith, f (not-false (r .fine) e) .most)
+
+  pub equation-place : (l : List ℕ) → length l ≡ 256 → (r .fine ≡ true → Stored line h r was out) → not (r .fine) ≡ false → h .equations < length l
+  equation-place l k f e = omega (arith, k, f (not-false (r .fine) e) .few)
 
 pub length-stored : (l out : List ℕ) (i x k : ℕ) → out ≡ set l i x → length l ≡ k → length out ≡ k
 length-stored l out i x k e h = ap (λ (y : List ℕ). length y) e ∙ length-set l i x ∙ h
-
-pub length-spliced : (l out cs : List ℕ) (i n k : ℕ) → out ≡ splice i (nodesOf n cs) l → i + n ≤ length l → length l ≡ k → length out ≡ k
-length-spliced l out cs i n k e f h = ap (λ (y : List ℕ). length y) e ∙ length-splice i (nodesOf n cs) l (omega (arith, f, length-nodesOf n cs)) ∙ h

@@ -1,17 +1,18 @@
 -- What the reader of decks holds of the lines so far.
 use mathlib.Core.Path.{_≡_}
-use mathlib.Core.Bool.{Bool, true, false}
+use mathlib.Core.Bool.{true, false}
 use mathlib.Core.List.{List}
-use Prim.Native.Nat.{ℕ, _+_, _-_, _*_, _<_, _≤_}
-use lib.ListN.{length, replicate}
-use Rattle.lists.specs.Lists.{padded}
+use Prim.Native.Nat.{ℕ, _+_, _-_, _<_, _≤_}
+use lib.ListN.{length, drop, replicate}
+use Rattle.lists.specs.Lists.{padded, splice}
 use Rattle.logic.specs.Expressions.{Expr, nodes, written, temporal, code}
 use Rattle.logic.specs.Decks.{base, totalNodes}
 use Rattle.decks.specs.declared.Answer.the-variants.{Fine}
 use Rattle.decks.specs.Answers.{Outcome, Got, Refused}
 use Rattle.decks.specs.Stored.{HoldsEquations}
-use Rattle.frames.specs.Read.{Due, DueSet, DueInit, DueAny, DueEquation, DueCount, DueNone, Sofar, begun, lastLeft}
+use Rattle.frames.specs.Read.{Due, DueSet, DueInit, DueAny, DueEquation, DueCount, DueNone, Sofar, lastLeft}
 use Rattle.decks.specs.Readings.{leftSet}
+use Rattle.lines.specs.Steps.{nodesOf}
 use Rattle.decklines.specs.declared.Held.{Held}
 use Rattle.decklines.specs.declared.LineRead.{LineRead}
 use Rattle.decklines.specs.declared.ExprRead.{ExprRead}
@@ -92,13 +93,19 @@ abbrev pub EquationsAfter : Outcome Sofar → List ℕ → List ℕ → List ℕ
 EquationsAfter (Got s) lefts ends nodes = HoldsEquations (s .deck .equations) lefts ends nodes (length (s .deck .equations))
 EquationsAfter (Refused a) lefts ends nodes = Unit
 
--- An equation that was judged has room in the arrays, and stands whole in its line.
-pub record Room (line : List ℕ) (h : Held) (r : LineRead) : Type 0 where
+-- An equation that was judged has room in the arrays.
+pub record Room (v : ℕ) (h : Held) (e : ExprRead) (r : LineRead) : Type 0 where
   pub few : h .equations < base .equations
   pub most : r .held .used ≤ base .equationNodes
-  pub grows : h .used ≤ r .held .used
-  pub within : 4 + 2 * (r .held .used - h .used) ≤ length line
+  pub used-is : r .held .used ≡ h .used + e .nodes
+  pub last-is : r .held .last ≡ v
+
+-- An equation that was read has room in the arrays, and its nodes are stored.
+pub record Stored (line : List ℕ) (h : Held) (r : LineRead) (was out : List ℕ) : Type 0 where
+  pub few : h .equations < base .equations
+  pub most : r .held .used ≤ base .equationNodes
   pub left-fits : r .held .last < base .variables
+  pub nodes-are : out ≡ splice (h .used) (nodesOf (r .held .used - h .used) (drop 4 line)) was
 
 -- What a 03 came to, with the equations behind it.
 pub record EquationCame (o : Outcome Sofar) (r : LineRead) (lefts ends nodes : List ℕ) : Type 0 where

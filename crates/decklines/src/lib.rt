@@ -1,15 +1,17 @@
 // The lines of a deck, each judged and then stored.
 ghost use mathlib.Core.Path.{_≡_};
-ghost use mathlib.Core.Bool.{true};
-ghost use Prim.Native.Nat.{ℕ, _+_, _-_, _*_, _<_, _≤_};
-ghost use lib.ListN.{length, take, drop, replicate};
+ghost use mathlib.Core.Bool.{true, false, not};
+ghost use Prim.Native.Nat.{_+_, _-_, _*_, _^_, _<_, _≤_};
+ghost use lib.ListN.{length, drop, replicate};
 ghost use Rattle.lists.specs.Lists.{stands, padded};
+ghost use Rattle.logic.specs.Expressions.{Expr};
 ghost use Rattle.logic.specs.Decks.{Deck, base};
 ghost use Rattle.decks.specs.declared.Answer.the-variants.{BadFrame};
-ghost use Rattle.decks.specs.Answers.{Refused};
+ghost use Rattle.decks.specs.Answers.{Got, Refused};
 ghost use Rattle.decks.specs.Stored.{HoldsEquations};
-ghost use Rattle.frames.specs.Read.{Sofar, begun, wholeExpr, setLine, initLine, equationLine, propertyLine};
-ghost use Rattle.decklines.specs.Held.{heldOf, lineOf, exprOf, InitCame, PropertyCame, EquationCame, Room};
+ghost use Rattle.lines.specs.Steps.{Kept};
+ghost use Rattle.frames.specs.Read.{Sofar, begun, wholeExpr, setLine, initLine, withEquation, equationLine, propertyLine};
+ghost use Rattle.decklines.specs.Held.{heldOf, lineOf, exprOf, InitCame, PropertyCame, EquationCame, Room, Stored};
 
 // The text at fault.
 const DECK_TEXT: u64 = 1;
@@ -111,12 +113,12 @@ fn no_expression(a: decks::Answer) -> ExprRead
     }
 }
 
-// The expression that fills line n from a place on.
-pub fn expression_line(line: &[u8], at: usize, n: u64) -> ExprRead
-    requires { ⌜ at ≤ length (now line) ⌝ }
-    ensures { λ r. ⌜ (r ≡ exprOf (wholeExpr n (drop at (now (line .entry))))) × (at + 2 * r .nodes ≤ length (now (line .entry))) ⌝ }
+// The expression that fills line n from a place on; its nodes are kept from a place of the lent row on, as far as the row has room.
+pub fn expression_line(line: &[u8], at: usize, n: u64, out: &mut [u16], used: usize) -> ExprRead
+    requires { ⌜ (at ≤ length (now line)) × (used ≤ length (now out)) ⌝ }
+    ensures { λ r. ⌜ (r ≡ exprOf (wholeExpr n (drop at (now (line .entry))))) × (at + 2 * r .nodes ≤ length (now (line .entry))) × (length (now (out .exit)) ≡ length (now (out .entry))) × (not (r .fine) ≡ false → Kept (now (line .entry)) at used (r .nodes) (now (out .entry)) (now (out .exit))) ⌝ }
 {
-    let e = lines::expression(line, at, decks::LEVELS);
+    let e = lines::expression(line, at, decks::LEVELS, out, used);
     if e.stop == lines::DEEP {
         return no_expression(decks::Answer::TooDeep(n));
     }
@@ -140,7 +142,7 @@ pub fn property_line(line: &[u8], n: u64, h: Held, property: &mut [u16]) -> Line
     requires { ⌜ (2 ≤ length (now line)) × (length (now property) ≡ base .propertyNodes) ⌝ }
     ensures { λ r. ⌜ (length (now (property .exit)) ≡ base .propertyNodes) × ((s : Sofar) → h ≡ heldOf s → now (property .entry) ≡ replicate (base .propertyNodes) 0 → PropertyCame (propertyLine n (drop 2 (now (line .entry))) (s .deck)) r (now (property .exit))) ⌝ }
 {
-    let e = expression_line(line, 2, n);
+    let e = expression_line(line, 2, n, property, 0);
     if !e.fine {
         let a = e.answer;
         return stopped(a);
@@ -151,7 +153,6 @@ pub fn property_line(line: &[u8], n: u64, h: Held, property: &mut [u16]) -> Line
     if e.nodes > decks::PROPERTY_NODES {
         return stopped(decks::Answer::ManyNodes(n));
     }
-    lines::store_nodes(line, 2, e.nodes, property, 0);
     LineRead {
         fine: true,
         answer: decks::Answer::Fine,
@@ -225,23 +226,11 @@ pub fn init_line(line: &[u8], n: u64, h: Held, inits: &mut [u64]) -> LineRead
     }
 }
 
-// 03 judged: its variable, then its expression, then 9, 10, 13 and 14.
-fn equation_judged(line: &[u8], n: u64, h: Held) -> LineRead
-    requires { ⌜ (h .equations ≤ base .equations) × (h .used ≤ base .equationNodes) ⌝ }
-    ensures { λ r. ⌜ ((s : Sofar) → h ≡ heldOf s → r ≡ lineOf (equationLine n (drop 2 (now (line .entry))) (s .deck))) × (r .fine ≡ true → Room (now (line .entry)) h r) ⌝ }
+// 03 judged, with its variable and its expression: 9, 10, 13 and 14.
+fn equation_judged(v: u64, e: ExprRead, n: u64, h: Held) -> LineRead
+    requires { ⌜ (v < base .variables) × (e .nodes < 2 ^ 63) × (h .equations ≤ base .equations) × (h .used ≤ base .equationNodes) ⌝ }
+    ensures { λ r. ⌜ ((s : Sofar) (x : Expr) → h ≡ heldOf s → e ≡ exprOf (Got x) → r ≡ lineOf (withEquation n (s .deck) (record { left = v; right = x }))) × (r .fine ≡ true → Room v h e r) ⌝ }
 {
-    let v = lines::pair_at(line, 2);
-    if v >= decks::VARIABLES as u64 {
-        return bad(n);
-    }
-    if v < h.last {
-        return bad(n);
-    }
-    let e = expression_line(line, 4, n);
-    if !e.fine {
-        let a = e.answer;
-        return stopped(a);
-    }
     if !sets::member(h.vars, v as usize) {
         return stopped(decks::Answer::Outside(DECK_TEXT, n));
     }
@@ -273,7 +262,27 @@ fn equation_judged(line: &[u8], n: u64, h: Held) -> LineRead
     }
 }
 
-// 03: judged, and then its equation stored.
+// 03 read: its variable, then its expression, whose nodes are stored; and judged.
+fn equation_read(line: &[u8], n: u64, h: Held, nodes: &mut [u16]) -> LineRead
+    requires { ⌜ (h .equations ≤ base .equations) × (h .used ≤ base .equationNodes) × (length (now nodes) ≡ base .equationNodes) ⌝ }
+    ensures { λ r. ⌜ (length (now (nodes .exit)) ≡ base .equationNodes) × ((s : Sofar) → h ≡ heldOf s → r ≡ lineOf (equationLine n (drop 2 (now (line .entry))) (s .deck))) × (r .fine ≡ true → Stored (now (line .entry)) h r (now (nodes .entry)) (now (nodes .exit))) ⌝ }
+{
+    let v = lines::pair_at(line, 2);
+    if v >= decks::VARIABLES as u64 {
+        return bad(n);
+    }
+    if v < h.last {
+        return bad(n);
+    }
+    let e = expression_line(line, 4, n, nodes, h.used);
+    if !e.fine {
+        let a = e.answer;
+        return stopped(a);
+    }
+    equation_judged(v, e, n, h)
+}
+
+// 03: read, and then its variable and its end stored.
 pub fn equation_line(
     line: &[u8],
     n: u64,
@@ -285,13 +294,12 @@ pub fn equation_line(
     requires { ⌜ (h .equations ≤ base .equations) × (h .used ≤ base .equationNodes) × (length (now lefts) ≡ base .equations) × (length (now ends) ≡ base .equations) × (length (now nodes) ≡ base .equationNodes) ⌝ }
     ensures { λ r. ⌜ (length (now (lefts .exit)) ≡ base .equations) × (length (now (ends .exit)) ≡ base .equations) × (length (now (nodes .exit)) ≡ base .equationNodes) × ((s : Sofar) → h ≡ heldOf s → HoldsEquations (s .deck .equations) (now (lefts .entry)) (now (ends .entry)) (now (nodes .entry)) (length (s .deck .equations)) → EquationCame (equationLine n (drop 2 (now (line .entry))) (s .deck)) r (now (lefts .exit)) (now (ends .exit)) (now (nodes .exit))) ⌝ }
 {
-    let r = equation_judged(line, n, h);
+    let r = equation_read(line, n, h, nodes);
     if !r.fine {
         return r;
     }
     let held = r.held;
     lines::put_node(lefts, h.equations, held.last as u16);
     lines::put_node(ends, h.equations, held.used as u16);
-    lines::store_nodes(line, 4, held.used - h.used, nodes, h.used);
     r
 }

@@ -45,7 +45,7 @@ module _ (c r : ℕ) where
 
 -- ---- pairs
 
-kind-short : (cs : List ℕ) → length cs < 2 → kindOf cs ≡ 256
+pub kind-short : (cs : List ℕ) → length cs < 2 → kindOf cs ≡ 256
 unfolding kindOf
 kind-short [] h = refl
 kind-short (c ∷ []) h = refl

@@ -1,26 +1,29 @@
 -- Laws of the reader of one expression.
 use mathlib.Core.Path.{_≡_, refl, sym, ap, _∙_, subst}
-use mathlib.Core.Logic.{_⊎_, inl, inr, ⊎-elim}
+use mathlib.Core.Logic.{by-cases}
 use mathlib.Core.Bool.{Bool, true, false, _||_}
 use mathlib.Core.List.{List, [], _∷_, _++_}
-use Prim.Native.Nat.{ℕ, zero, suc, _+_, _-_, _*_, _^_, _%_, _<_, _≤_}
+use Prim.Native.Nat.{ℕ, zero, suc, _+_, _-_, _*_, _/_, _%_, _^_, _<_, _≤_}
 use native.Mathlib.Omega.{arith}
-use native.Mathlib.Nat.{mod-eq-of-lt, zero-add}
-use native.Mathlib.Decide.{decLt}
+use native.Mathlib.Nat.{mod-eq-of-lt, zero-add, lt-of-lt-of-le, div-div-eq-div-mul, pow-suc, pow-succ'}
+use native.Mathlib.Decide.{decLt, ℕ-discrete}
 use lib.Dec.{ltb, leb}
-use lib.Pow.{pow-lt}
-use lib.ListN.{length, take, drop, getD, set, length-drop, List·getD-eq-default}
-use lib.Seq.{drop-drop}
+use lib.Pow.{pow-pos, pow-lt, pow-mono}
+use lib.Bits.{or-zero-l}
+use lib.Count.{trailingZeros, under}
+use lib.ListN.{length, drop, getD, set, length-drop, length-set, List·getD-eq-default}
+use lib.Seq.{drop-drop, set-out}
 use borrow.Author.Tests.{lt-ltb, le-ltb}
 use Rattle.lists.specs.Lists.{splice}
-use Rattle.lists.proofs.Laws.{splice-nothing, length-splice, splice-splice, set-splice}
-use Rattle.sets.specs.Sets.{only, union}
-use Rattle.logic.specs.Expressions.{Expr, Op1, Op2, Const, Var, One, Two, Not, Next, Future, Always, And, Or, Until, Weak, nodes, written, temporal, node1, node2, code}
-use Rattle.frames.specs.Hex.{byteOf}
+use Rattle.lists.proofs.Laws.{splice-nothing, splice-splice, set-splice}
+use Rattle.sets.specs.Sets.{only, union, lowestOf}
+use Rattle.sets.proofs.Laws.{union-assoc}
+use Rattle.logic.specs.Expressions.{Expr, Op1, Op2, Var, One, Two, nodes, written, temporal, node1, node2, code}
 use Rattle.frames.specs.Read.{Sign, Leaf, Before, Between, NoSign, signs, signOf, signed, levelled, begins, readExpr, kindOf}
 use Rattle.decks.specs.Readings.{Reading, Whole, Wrong, Deep, onward}
-use Rattle.lines.specs.Steps.{placesOf, leafVars, stepOf, nodeOf, nodesOf}
+use Rattle.lines.specs.Steps.{placesOf, leafVars, stepOf, nodeOf, nodesOf, Kept}
 use Rattle.lines.specs.declared.Step.{Step}
+use Rattle.lines.proofs.Laws.{kind-short}
 
 -- ---- codes
 
@@ -314,70 +317,6 @@ wholeStep next n v t = record { stop = 0; next = next; nodes = n; vars = v; temp
 abbrev pub stoppedStep : ℕ → ℕ → Step
 stoppedStep stop next = record { stop = stop; next = next; nodes = 0; vars = 0; temporal = false }
 
-module _ (l : List ℕ) (at left b k : ℕ) where
-  place-is : at ≤ length l → length l - length (drop at l) ≡ at
-  place-is h = omega (arith, length-drop at l)
-
-  sign-of : (s : Sign) → b ≡ kindOf (drop at l) → signOf b ≡ s → signOf (kindOf (drop at l)) ≡ s
-  sign-of s e q = ap signOf (sym e) ∙ q
-
-  no-sign : k ≡ placesOf (signOf b) → k ≡ 3 → signOf b ≡ NoSign
-  no-sign p q = go (signOf b) (sym p ∙ q)
-    where
-      go : (s : Sign) → placesOf s ≡ 3 → s ≡ NoSign
-      go (Leaf e) r = absurd (omega arith)
-      go (Before o) r = absurd (omega arith)
-      go (Between o) r = absurd (omega arith)
-      go NoSign r = refl
-
-  a-sign : k ≡ placesOf (signOf b) → (k ≡ 3 → ⊥) → signOf b ≡ NoSign → ⊥
-  a-sign p n q = n (p ∙ ap placesOf q)
-
-  pub step-wrong : at ≤ length l → b ≡ kindOf (drop at l) → k ≡ placesOf (signOf b) → k ≡ 3 → stoppedStep 1 at ≡ stepOf (length l) (readExpr left (drop at l))
-  step-wrong h e p q =
-      sym (ap (stepOf (length l)) (read-none left (drop at l) (sign-of NoSign e (no-sign p q))) ∙ ap (stoppedStep 1) (place-is h))
-
-  pub step-deep : at ≤ length l → b ≡ kindOf (drop at l) → k ≡ placesOf (signOf b) → (k ≡ 3 → ⊥) → left ≡ 0 → stoppedStep 2 at ≡ stepOf (length l) (readExpr left (drop at l))
-  step-deep h e p n z =
-      sym
-      (ap (λ (m : ℕ). stepOf (length l) (readExpr m (drop at l))) z
-      ∙ ap (stepOf (length l)) (read-deep (drop at l) (λ q. a-sign p n (ap signOf e ∙ q)))
-      ∙ ap (stoppedStep 2) (place-is h))
-
-  -- A pair stands where a sign begins.
-  pub sign-inside : b ≡ kindOf (drop at l) → k ≡ placesOf (signOf b) → (k ≡ 3 → ⊥) → at + 2 ≤ length l
-  sign-inside e p n = omega (arith, sign-long (drop at l) (λ q. a-sign p n (ap signOf e ∙ q)), length-drop at l)
-
-  begins-at : (s : Sign) → b ≡ kindOf (drop at l) → (left ≡ 0 → ⊥) → signOf b ≡ s → readExpr left (drop at l) ≡ begins (readExpr (left - 1)) (drop at l) s (drop (at + 2) l)
-  begins-at s e n q =
-      let more : left ≡ suc (left - 1) = omega arith in
-      ap (λ (m : ℕ). readExpr m (drop at l)) more
-      ∙ read-begins (left - 1) (drop at l) s (sign-of s e q)
-      ∙ ap (begins (readExpr (left - 1)) (drop at l) s) (drop-drop 2 at l)
-
-  pub step-leaf : (v : ℕ) → b ≡ kindOf (drop at l) → k ≡ placesOf (signOf b) → (k ≡ 3 → ⊥) → (left ≡ 0 → ⊥) → k ≡ 0 → v ≡ leafVars b → wholeStep (at + 2) 1 v false ≡ stepOf (length l) (readExpr left (drop at l))
-  step-leaf v e p n m q w = go (signOf b) refl
-    where
-      go : (s : Sign) → signOf b ≡ s → wholeStep (at + 2) 1 v false ≡ stepOf (length l) (readExpr left (drop at l))
-      go (Leaf x) r =
-          let f : Begun b (Leaf x) = subst (Begun b) r (code-begun b) in
-          let place : length l - length (drop (at + 2) l) ≡ at + 2 = omega (arith, length-drop (at + 2) l, sign-inside e p n) in
-          sym
-          (ap (stepOf (length l)) (begins-at (Leaf x) e m r)
-          ∙ ap (λ (i : ℕ). wholeStep i (nodes x) (written x) (temporal x)) place
-          ∙ ap (λ (i : ℕ). wholeStep (at + 2) i (written x) (temporal x)) (f .0)
-          ∙ ap (λ (i : ℕ). wholeStep (at + 2) 1 i (temporal x)) (f .1 ∙ sym w)
-          ∙ ap (wholeStep (at + 2) 1 v) (f .2))
-      go (Before o) r = let z : _≡_ {A = ℕ} 1 0 = sym (ap placesOf r) ∙ sym p ∙ q in absurd (omega arith)
-      go (Between o) r = let z : _≡_ {A = ℕ} 2 0 = sym (ap placesOf r) ∙ sym p ∙ q in absurd (omega arith)
-      go NoSign r = absurd (a-sign p n r)
-
--- A reading that stopped stops what goes on from it.
-onward-stopped : (n : ℕ) (a : Step) (r : Reading) (f : Expr → List ℕ → Reading) → a ≡ stepOf n r → (a .stop ≡ 0 → ⊥) → a ≡ stepOf n (onward r f)
-onward-stopped n a (Whole e cs) f p q = absurd (q (ap (λ (s : Step). s .stop) p))
-onward-stopped n a (Wrong cs) f p q = p
-onward-stopped n a (Deep cs) f p q = p
-
 -- A reading that did not stop is whole.
 pub whole-when : (n : ℕ) (a : Step) (r : Reading) → a ≡ stepOf n r → a .stop ≡ 0 → (e : Expr) × (rest : List ℕ) × (r ≡ Whole e rest)
 whole-when n a (Whole e cs) p q = (e, cs, refl)
@@ -393,84 +332,350 @@ whole-next l at left a e rest h p q =
     let i : a .next ≡ at + 2 * nodes e = n ∙ omega (arith, s .room, ap (λ (x : List ℕ). length x) r, length-drop at l, length-drop (at + 2 * nodes e) l) in
     (i, omega (arith, i, s .room, length-drop at l), r ∙ ap (λ (x : ℕ). drop x l) (sym i))
 
-module _ (l : List ℕ) (at left b k : ℕ) (a : Step) where
-  pub first-stopped : b ≡ kindOf (drop at l) → k ≡ placesOf (signOf b) → (k ≡ 3 → ⊥) → (left ≡ 0 → ⊥) → (k ≡ 0 → ⊥) → a ≡ stepOf (length l) (readExpr (left - 1) (drop (at + 2) l)) → (a .stop ≡ 0 → ⊥) → a ≡ stepOf (length l) (readExpr left (drop at l))
-  first-stopped e p n m z h s = go (signOf b) refl
+-- ---- the operands to come
+
+-- A level before others, where the digit is set.
+abbrev due : ℕ → ℕ → List ℕ → List ℕ
+due zero l ls = ls
+due (suc b) l ls = l ∷ ls
+
+-- The levels left for the operands to come: digit j of the word's d digits is set where the sign j + 1 levels up has its second operand to come; l levels are left at hand.
+unfoldable pub levels : ℕ → ℕ → ℕ → List ℕ
+levels zero w l = []
+levels (suc d) w l = due (w % 2) l (levels d (w / 2) (l + 1))
+
+levels-none : (d l : ℕ) → levels d 0 l ≡ []
+unfolding levels
+levels-none zero l = refl
+levels-none (suc d) l = levels-none d (l + 1)
+
+levels-more : (d w b l : ℕ) → b < 2 → levels (suc d) (2 * w + b) l ≡ due b l (levels d w (l + 1))
+unfolding levels
+levels-more d w b l h =
+    let low : (2 * w + b) % 2 ≡ b = omega arith in
+    let high : (2 * w + b) / 2 ≡ w = omega arith in
+    ap (λ (x : ℕ). due x l (levels d ((2 * w + b) / 2) (l + 1))) low ∙ ap (λ (x : ℕ). due b l (levels d x (l + 1))) high
+
+-- The nearest operand to come, z signs up.
+record Nearest (d w l z : ℕ) : Type 0 where
+  few : z < d
+  some : 0 < w / 2 ^ z
+  less : w / 2 ^ z - 1 < 2 ^ (d - z)
+  levels-are : levels d w l ≡ (l + z) ∷ levels (d - z) (w / 2 ^ z - 1) (l + z)
+
+nearest-here : (d w l : ℕ) → w % 2 ≡ 1 → w < 2 ^ suc d → Nearest (suc d) w l 0
+unfolding levels
+nearest-here d w l e h =
+    let all : w / 2 ^ 0 ≡ w = omega arith in
+    let down : w / 2 ^ 0 - 1 ≡ 2 * (w / 2) + 0 = omega (arith, all, e) in
+    let same : l ≡ l + 0 = omega arith in
+    let whole : suc d ≡ suc d - 0 = omega arith in
+    record {
+      few = omega arith;
+      some = omega (arith, all, e);
+      less = subst (λ (x : ℕ). w / 2 ^ 0 - 1 < 2 ^ x) whole (omega (arith, all, h));
+      levels-are =
+          ap (λ (x : ℕ). due x l (levels d (w / 2) (l + 1))) e
+          ∙ ap (λ (x : List ℕ). l ∷ x) (sym (levels-more d (w / 2) 0 l (omega arith)) ∙ ap (λ (x : ℕ). levels (suc d) x l) (sym down))
+          ∙ ap (λ (x : ℕ). x ∷ levels (suc d) (w / 2 ^ 0 - 1) x) same
+          ∙ ap (λ (x : ℕ). (l + 0) ∷ levels x (w / 2 ^ 0 - 1) (l + 0)) whole;
+    }
+
+nearest-above : (d w l z : ℕ) → w % 2 ≡ 0 → Nearest d (w / 2) (l + 1) z → Nearest (suc d) w l (suc z)
+unfolding levels
+nearest-above d w l z e n =
+    let part : w / 2 / 2 ^ z ≡ w / 2 ^ suc z = div-div-eq-div-mul w 2 (2 ^ z) ∙ ap (λ (x : ℕ). w / x) (sym (pow-succ' 2 z)) in
+    let up : l + 1 + z ≡ l + suc z = omega arith in
+    let left : d - z ≡ suc d - suc z = omega arith in
+    record {
+      few = omega (arith, n .few);
+      some = rw (← part) (n .some);
+      less = subst (λ (x : ℕ). w / 2 ^ suc z - 1 < 2 ^ x) left (subst (λ (x : ℕ). x - 1 < 2 ^ (d - z)) part (n .less));
+      levels-are =
+          ap (λ (x : ℕ). due x l (levels d (w / 2) (l + 1))) e
+          ∙ n .levels-are
+          ∙ ap (λ (x : ℕ). (l + 1 + z) ∷ levels (d - z) (x - 1) (l + 1 + z)) part
+          ∙ ap (λ (x : ℕ). x ∷ levels (d - z) (w / 2 ^ suc z - 1) x) up
+          ∙ ap (λ (x : ℕ). (l + suc z) ∷ levels x (w / 2 ^ suc z - 1) (l + suc z)) left;
+    }
+
+nearest : (k d w l : ℕ) → d ≤ k → w < 2 ^ d → (w ≡ 0 → ⊥) → Nearest d w l (trailingZeros k w)
+unfolding trailingZeros
+nearest k zero w l h m n = absurd (n (omega arith))
+nearest zero (suc d) w l h m n = absurd (omega arith)
+nearest (suc k) (suc d) w l h m n =
+    by-cases (ℕ-discrete (w % 2) 0)
+    (λ e.
+    let z : under (w % 2) (trailingZeros k (w / 2)) ≡ suc (trailingZeros k (w / 2)) = ap (λ (x : ℕ). under x (trailingZeros k (w / 2))) e in
+    subst (Nearest (suc d) w l) (sym z) (nearest-above d w l (trailingZeros k (w / 2)) e (nearest k d (w / 2) (l + 1) (omega arith) (omega (arith, pow-suc 2 d)) (λ y. n (omega arith)))))
+    (λ o.
+    let e : w % 2 ≡ 1 = omega arith in
+    let z : under (w % 2) (trailingZeros k (w / 2)) ≡ 0 = ap (λ (x : ℕ). under x (trailingZeros k (w / 2))) e in
+    subst (Nearest (suc d) w l) (sym z) (nearest-here d w l e m))
+
+-- ---- the reading so far, and what is still to be read
+
+-- What a reading comes to, once it is known what a whole one comes to.
+abbrev goes : (Expr → List ℕ → Step) → ℕ → Reading → Step
+goes f n (Whole e rest) = f e rest
+goes f n (Wrong rest) = stoppedStep 1 (n - length rest)
+goes f n (Deep rest) = stoppedStep 2 (n - length rest)
+
+goes-onward : (f : Expr → List ℕ → Step) (n : ℕ) (r : Reading) (g : Expr → List ℕ → Reading) → goes f n (onward r g) ≡ goes (λ e rest. goes f n (g e rest)) n r
+goes-onward f n (Whole e rest) g = refl
+goes-onward f n (Wrong rest) g = refl
+goes-onward f n (Deep rest) g = refl
+
+goes-same : (f g : Expr → List ℕ → Step) (n : ℕ) (r : Reading) → ((e : Expr) (rest : List ℕ) → f e rest ≡ g e rest) → goes f n r ≡ goes g n r
+goes-same f g n (Whole e rest) h = h e rest
+goes-same f g n (Wrong rest) h = refl
+goes-same f g n (Deep rest) h = refl
+
+-- The answer in a line of n characters, behind k nodes with the variables v, where an expression of each of these levels is still to be read, one behind the other.
+unfoldable pub reads : ℕ → List ℕ → List ℕ → ℕ → ℕ → Bool → Step
+reads n [] cs k v t = wholeStep (n - length cs) k v t
+reads n (l ∷ ls) cs k v t = goes (λ e rest. reads n ls rest (k + nodes e) (union v (written e)) (t || temporal e)) n (readExpr l cs)
+
+or-false : (t : Bool) → t || false ≡ t
+or-false true = refl
+or-false false = refl
+
+or-swap : (t u x : Bool) → t || (u || x) ≡ (u || t) || x
+or-swap true true x = refl
+or-swap true false x = refl
+or-swap false true x = refl
+or-swap false false x = refl
+
+or-assoc : (t x y : Bool) → t || (x || y) ≡ (t || x) || y
+or-assoc true x y = refl
+or-assoc false x y = refl
+
+reads-alone : (n l : ℕ) (cs : List ℕ) → reads n (l ∷ []) cs 0 0 false ≡ stepOf n (readExpr l cs)
+unfolding reads
+reads-alone n l cs = go (readExpr l cs)
+  where
+    go : (r : Reading) → goes (λ e rest. wholeStep (n - length rest) (0 + nodes e) (union 0 (written e)) (false || temporal e)) n r ≡ stepOf n r
+    go (Whole e rest) = ap (λ (x : ℕ). wholeStep (n - length rest) x (union 0 (written e)) (temporal e)) (zero-add (nodes e)) ∙ ap (λ (x : ℕ). wholeStep (n - length rest) (nodes e) x (temporal e)) (or-zero-l (written e))
+    go (Wrong rest) = refl
+    go (Deep rest) = refl
+
+module _ (n : ℕ) (ls cs : List ℕ) (k v : ℕ) (t : Bool) where
+  reads-wrong : (l : ℕ) → signOf (kindOf cs) ≡ NoSign → reads n (l ∷ ls) cs k v t ≡ stoppedStep 1 (n - length cs)
+  unfolding reads
+  reads-wrong l q = ap (goes (λ e rest. reads n ls rest (k + nodes e) (union v (written e)) (t || temporal e)) n) (read-none l cs q)
+
+  reads-deep : (signOf (kindOf cs) ≡ NoSign → ⊥) → reads n (0 ∷ ls) cs k v t ≡ stoppedStep 2 (n - length cs)
+  unfolding reads
+  reads-deep q = ap (goes (λ e rest. reads n ls rest (k + nodes e) (union v (written e)) (t || temporal e)) n) (read-deep cs q)
+
+  reads-leaf : (l : ℕ) (e : Expr) → signOf (kindOf cs) ≡ Leaf e → reads n (suc l ∷ ls) cs k v t ≡ reads n ls (drop 2 cs) (k + 1) (union v (leafVars (kindOf cs))) t
+  unfolding reads
+  reads-leaf l e q =
+      let f : Begun (kindOf cs) (Leaf e) = subst (Begun (kindOf cs)) q (code-begun (kindOf cs)) in
+      ap (goes (λ e rest. reads n ls rest (k + nodes e) (union v (written e)) (t || temporal e)) n) (read-begins l cs (Leaf e) q)
+      ∙ ap (λ (x : ℕ). reads n ls (drop 2 cs) (k + x) (union v (written e)) (t || temporal e)) (f .0)
+      ∙ ap (λ (x : ℕ). reads n ls (drop 2 cs) (k + 1) (union v x) (t || temporal e)) (f .1)
+      ∙ ap (λ (x : Bool). reads n ls (drop 2 cs) (k + 1) (union v (leafVars (kindOf cs))) (t || x)) (f .2)
+      ∙ ap (reads n ls (drop 2 cs) (k + 1) (union v (leafVars (kindOf cs)))) (or-false t)
+
+  reads-one : (l : ℕ) (o : Op1) → signOf (kindOf cs) ≡ Before o → reads n (suc l ∷ ls) cs k v t ≡ reads n (l ∷ ls) (drop 2 cs) (k + 1) v (leb 69 (kindOf cs) || t)
+  unfolding reads nodes written
+  reads-one l o q =
+      let u : Bool = leb 69 (kindOf cs) in
+      let f : Begun (kindOf cs) (Before o) = subst (Begun (kindOf cs)) q (code-begun (kindOf cs)) in
+      let on : Expr → List ℕ → Step = λ e rest. reads n ls rest (k + nodes e) (union v (written e)) (t || temporal e) in
+      ap (goes on n) (read-begins l cs (Before o) q)
+      ∙ goes-onward on n (readExpr l (drop 2 cs)) (λ a rest. Whole (One o a) rest)
+      ∙ goes-same (λ a rest. on (One o a) rest) (λ a rest. reads n ls rest (k + 1 + nodes a) (union v (written a)) ((u || t) || temporal a)) n (readExpr l (drop 2 cs))
+      (λ a rest.
+      let more : k + (1 + nodes a) ≡ k + 1 + nodes a = omega arith in
+      ap (λ (x : ℕ). reads n ls rest x (union v (written a)) (t || temporal (One o a))) more
+      ∙ ap (reads n ls rest (k + 1 + nodes a) (union v (written a))) (ap (λ (x : Bool). t || x) (f .1 a) ∙ or-swap t u (temporal a)))
+
+  reads-two : (l : ℕ) (o : Op2) → signOf (kindOf cs) ≡ Between o → reads n (suc l ∷ ls) cs k v t ≡ reads n (l ∷ l ∷ ls) (drop 2 cs) (k + 1) v (leb 69 (kindOf cs) || t)
+  unfolding reads nodes written
+  reads-two l o q =
+      let u : Bool = leb 69 (kindOf cs) in
+      let f : Begun (kindOf cs) (Between o) = subst (Begun (kindOf cs)) q (code-begun (kindOf cs)) in
+      let on : Expr → List ℕ → Step = λ e rest. reads n ls rest (k + nodes e) (union v (written e)) (t || temporal e) in
+      let then : Expr → Expr → List ℕ → Step = λ a b last. reads n ls last (k + 1 + nodes a + nodes b) (union (union v (written a)) (written b)) (((u || t) || temporal a) || temporal b) in
+      ap (goes on n) (read-begins l cs (Between o) q)
+      ∙ goes-onward on n (readExpr l (drop 2 cs)) (λ a rest. onward (readExpr l rest) (λ b last. Whole (Two o a b) last))
+      ∙ goes-same (λ a rest. goes on n (onward (readExpr l rest) (λ b last. Whole (Two o a b) last))) (λ a rest. goes (then a) n (readExpr l rest)) n (readExpr l (drop 2 cs))
+      (λ a rest.
+      goes-onward on n (readExpr l rest) (λ b last. Whole (Two o a b) last)
+      ∙ goes-same (λ b last. on (Two o a b) last) (then a) n (readExpr l rest)
+      (λ b last.
+      let more : k + (1 + (nodes a + nodes b)) ≡ k + 1 + nodes a + nodes b = omega arith in
+      let ever : t || temporal (Two o a b) ≡ ((u || t) || temporal a) || temporal b = ap (λ (x : Bool). t || x) (f .1 a b) ∙ or-swap t u (temporal a || temporal b) ∙ or-assoc (u || t) (temporal a) (temporal b) in
+      ap (λ (x : ℕ). reads n ls last x (union v (union (written a) (written b))) (t || temporal (Two o a b))) more
+      ∙ ap (λ (x : ℕ). reads n ls last (k + 1 + nodes a + nodes b) x (t || temporal (Two o a b))) (union-assoc v (written a) (written b))
+      ∙ ap (reads n ls last (k + 1 + nodes a + nodes b) (union (union v (written a)) (written b))) ever))
+
+module _ (b k : ℕ) where
+  no-sign : k ≡ placesOf (signOf b) → k ≡ 3 → signOf b ≡ NoSign
+  no-sign p q = go (signOf b) (sym p ∙ q)
     where
-      go : (t : Sign) → signOf b ≡ t → a ≡ stepOf (length l) (readExpr left (drop at l))
-      go (Leaf x) r = absurd (z (p ∙ ap placesOf r))
-      go (Before o) r = onward-stopped (length l) a (readExpr (left - 1) (drop (at + 2) l)) (λ x rest. Whole (One o x) rest) h s ∙ ap (stepOf (length l)) (sym (begins-at l at left b k (Before o) e m r))
-      go (Between o) r = onward-stopped (length l) a (readExpr (left - 1) (drop (at + 2) l)) (λ x rest. onward (readExpr (left - 1) rest) (λ y last. Whole (Two o x y) last)) h s ∙ ap (stepOf (length l)) (sym (begins-at l at left b k (Between o) e m r))
-      go NoSign r = absurd (n (p ∙ ap placesOf r))
+      go : (s : Sign) → placesOf s ≡ 3 → s ≡ NoSign
+      go (Leaf e) r = absurd (omega arith)
+      go (Before o) r = absurd (omega arith)
+      go (Between o) r = absurd (omega arith)
+      go NoSign r = refl
 
-  pub step-one : (u t : Bool) → b ≡ kindOf (drop at l) → k ≡ placesOf (signOf b) → (left ≡ 0 → ⊥) → a ≡ stepOf (length l) (readExpr (left - 1) (drop (at + 2) l)) → a .stop ≡ 0 → k ≡ 1 → u ≡ leb 69 b → t ≡ (u || a .temporal) → wholeStep (a .next) (a .nodes + 1) (a .vars) t ≡ stepOf (length l) (readExpr left (drop at l))
-  unfolding nodes written
-  step-one u t e p m h s q d c = go (signOf b) refl
+  a-sign : k ≡ placesOf (signOf b) → (k ≡ 3 → ⊥) → signOf b ≡ NoSign → ⊥
+  a-sign p n q = n (p ∙ ap placesOf q)
+
+  pub places-most : k ≡ placesOf (signOf b) → (k ≡ 3 → ⊥) → k ≤ 2
+  places-most p n = go (signOf b) refl
     where
-      go : (g : Sign) → signOf b ≡ g → wholeStep (a .next) (a .nodes + 1) (a .vars) t ≡ stepOf (length l) (readExpr left (drop at l))
-      go (Leaf x) r = let z : _≡_ {A = ℕ} 0 1 = sym (ap placesOf r) ∙ sym p ∙ q in absurd (omega arith)
-      go (Before o) r =
-          let w = whole-when (length l) a (readExpr (left - 1) (drop (at + 2) l)) h s in
-          let x : Expr = w .0 in
-          let f : Begun b (Before o) = subst (Begun b) r (code-begun b) in
-          let g : a ≡ stepOf (length l) (Whole x (w .1)) = h ∙ ap (stepOf (length l)) (w .2) in
-          let more : a .nodes + 1 ≡ 1 + nodes x = ap (λ (y : Step). y .nodes + 1) g ∙ omega arith in
-          let ever : t ≡ temporal (One o x) = c ∙ ap (λ (y : Bool). y || a .temporal) d ∙ ap (λ (y : Step). leb 69 b || y .temporal) g ∙ sym (f .1 x) in
-          ap (λ (i : ℕ). wholeStep (a .next) i (a .vars) t) more
-          ∙ ap (wholeStep (a .next) (1 + nodes x) (a .vars)) ever
-          ∙ ap (λ (y : Step). wholeStep (y .next) (1 + nodes x) (y .vars) (temporal (One o x))) g
-          ∙ ap (stepOf (length l)) (sym (begins-at l at left b k (Before o) e m r ∙ ap (λ (y : Reading). onward y (λ v rest. Whole (One o v) rest)) (w .2)))
-      go (Between o) r = let z : _≡_ {A = ℕ} 2 1 = sym (ap placesOf r) ∙ sym p ∙ q in absurd (omega arith)
-      go NoSign r = let z : _≡_ {A = ℕ} 3 1 = sym (ap placesOf r) ∙ sym p ∙ q in absurd (omega arith)
+      go : (s : Sign) → signOf b ≡ s → k ≤ 2
+      go (Leaf e) r = omega (arith, p ∙ ap placesOf r)
+      go (Before o) r = omega (arith, p ∙ ap placesOf r)
+      go (Between o) r = omega (arith, p ∙ ap placesOf r)
+      go NoSign r = absurd (a-sign p n r)
 
-  module _ (c : Step) where
-    two-begins : (o : Op2) → signOf b ≡ Between o → at + 2 ≤ length l → b ≡ kindOf (drop at l) → (left ≡ 0 → ⊥) → a ≡ stepOf (length l) (readExpr (left - 1) (drop (at + 2) l)) → a .stop ≡ 0 → (x : Expr) × (a .nodes ≡ nodes x) × (a .vars ≡ written x) × (a .temporal ≡ temporal x) × (readExpr left (drop at l) ≡ onward (readExpr (left - 1) (drop (a .next) l)) (λ y last. Whole (Two o x y) last))
-    two-begins o r i e m h s =
-        let w = whole-when (length l) a (readExpr (left - 1) (drop (at + 2) l)) h s in
-        let x : Expr = w .0 in
-        let g : a ≡ stepOf (length l) (Whole x (w .1)) = h ∙ ap (stepOf (length l)) (w .2) in
-        let n = whole-next l (at + 2) (left - 1) a x (w .1) i h (w .2) in (
-          x,
-          ap (λ (y : Step). y .nodes) g,
-          ap (λ (y : Step). y .vars) g,
-          ap (λ (y : Step). y .temporal) g,
-          begins-at l at left b k (Between o) e m r
-              ∙ ap (λ (y : Reading). onward y (λ v rest. onward (readExpr (left - 1) rest) (λ u last. Whole (Two o v u) last))) (w .2)
-              ∙ ap (λ (y : List ℕ). onward (readExpr (left - 1) y) (λ u last. Whole (Two o x u) last)) (n .2),
-        )
+module _ (line : List ℕ) (at left i l w k v : ℕ) (t : Bool) where
+  -- The answer on the whole is that on what is still to be read from the place i on, behind what was read.
+  abbrev pub Sofar : Type 0
+  Sofar = stepOf (length line) (readExpr left (drop at line)) ≡ reads (length line) (l ∷ levels (left - l) w l) (drop i line) k v t
 
-    a-two : k ≡ placesOf (signOf b) → (k ≡ 3 → ⊥) → (k ≡ 0 → ⊥) → (k ≡ 1 → ⊥) → (o : Op2) × (signOf b ≡ Between o)
-    a-two p n z q = go (signOf b) refl
+  place-is : i ≤ length line → length line - length (drop i line) ≡ i
+  place-is h = omega (arith, length-drop i line)
+
+  pub sofar-over : Sofar → i ≤ length line → length line ≤ i + 1 → stoppedStep 1 i ≡ stepOf (length line) (readExpr left (drop at line))
+  unfolding signOf
+  sofar-over s h o =
+      let none : signOf (kindOf (drop i line)) ≡ NoSign = ap signOf (kind-short (drop i line) (omega (arith, length-drop i line))) in
+      sym (s ∙ reads-wrong (length line) (levels (left - l) w l) (drop i line) k v t l none ∙ ap (stoppedStep 1) (place-is h))
+
+  module _ (b p : ℕ) where
+    pub sofar-wrong : Sofar → i ≤ length line → b ≡ kindOf (drop i line) → p ≡ placesOf (signOf b) → p ≡ 3 → stoppedStep 1 i ≡ stepOf (length line) (readExpr left (drop at line))
+    sofar-wrong s h e q r =
+        sym (s ∙ reads-wrong (length line) (levels (left - l) w l) (drop i line) k v t l (ap signOf (sym e) ∙ no-sign b p q r) ∙ ap (stoppedStep 1) (place-is h))
+
+    pub sofar-deep : Sofar → i ≤ length line → b ≡ kindOf (drop i line) → p ≡ placesOf (signOf b) → (p ≡ 3 → ⊥) → l ≡ 0 → stoppedStep 2 i ≡ stepOf (length line) (readExpr left (drop at line))
+    sofar-deep s h e q r z =
+        let none : (signOf (kindOf (drop i line)) ≡ NoSign → ⊥) = λ n. a-sign b p q r (ap signOf e ∙ n) in
+        sym
+        (s
+        ∙ ap (λ (x : ℕ). reads (length line) (x ∷ levels (left - l) w l) (drop i line) k v t) z
+        ∙ reads-deep (length line) (levels (left - l) w l) (drop i line) k v t none
+        ∙ ap (stoppedStep 2) (place-is h))
+
+    -- A leaf: what comes next are the operands to come.
+    leaf-read : (x u : ℕ) → Sofar → b ≡ kindOf (drop i line) → p ≡ placesOf (signOf b) → (l ≡ 0 → ⊥) → p ≡ 0 → x ≡ leafVars b → u ≡ union v x → stepOf (length line) (readExpr left (drop at line)) ≡ reads (length line) (levels (left - l) w l) (drop (i + 2) line) (k + 1) u t
+    leaf-read x u s e q m z f g = go (signOf b) refl
       where
-        go : (g : Sign) → signOf b ≡ g → (o : Op2) × (signOf b ≡ Between o)
-        go (Leaf x) r = absurd (z (p ∙ ap placesOf r))
-        go (Before o) r = absurd (q (p ∙ ap placesOf r))
-        go (Between o) r = (o, r)
-        go NoSign r = absurd (n (p ∙ ap placesOf r))
+        go : (y : Sign) → signOf b ≡ y → stepOf (length line) (readExpr left (drop at line)) ≡ reads (length line) (levels (left - l) w l) (drop (i + 2) line) (k + 1) u t
+        go (Leaf a) r =
+            let more : l ≡ suc (l - 1) = omega arith in
+            let vars : union v (leafVars (kindOf (drop i line))) ≡ u = ap (λ (y : ℕ). union v (leafVars y)) (sym e) ∙ ap (union v) (sym f) ∙ sym g in
+            s
+            ∙ ap (λ (y : ℕ). reads (length line) (y ∷ levels (left - l) w l) (drop i line) k v t) more
+            ∙ reads-leaf (length line) (levels (left - l) w l) (drop i line) k v t (l - 1) a (ap signOf (sym e) ∙ r)
+            ∙ ap (λ (y : List ℕ). reads (length line) (levels (left - l) w l) y (k + 1) (union v (leafVars (kindOf (drop i line)))) t) (drop-drop 2 i line)
+            ∙ ap (λ (y : ℕ). reads (length line) (levels (left - l) w l) (drop (i + 2) line) (k + 1) y t) vars
+        go (Before o) r = let y : _≡_ {A = ℕ} 1 0 = sym (ap placesOf r) ∙ sym q ∙ z in absurd (omega arith)
+        go (Between o) r = let y : _≡_ {A = ℕ} 2 0 = sym (ap placesOf r) ∙ sym q ∙ z in absurd (omega arith)
+        go NoSign r = let y : _≡_ {A = ℕ} 3 0 = sym (ap placesOf r) ∙ sym q ∙ z in absurd (omega arith)
 
-    pub second-stopped : b ≡ kindOf (drop at l) → k ≡ placesOf (signOf b) → (k ≡ 3 → ⊥) → (left ≡ 0 → ⊥) → (k ≡ 0 → ⊥) → a ≡ stepOf (length l) (readExpr (left - 1) (drop (at + 2) l)) → a .stop ≡ 0 → (k ≡ 1 → ⊥) → c ≡ stepOf (length l) (readExpr (left - 1) (drop (a .next) l)) → (c .stop ≡ 0 → ⊥) → c ≡ stepOf (length l) (readExpr left (drop at l))
-    second-stopped e p n m z h s q d f =
-        let o = a-two p n z q in
-        let t = two-begins (o .0) (o .1) (sign-inside l at left b k e p n) e m h s in
-        onward-stopped (length l) c (readExpr (left - 1) (drop (a .next) l)) (λ y last. Whole (Two (o .0) (t .0) y) last) d f ∙ ap (stepOf (length l)) (sym (t .4))
+    pub sofar-whole : (x u : ℕ) → Sofar → i + 1 < length line → b ≡ kindOf (drop i line) → p ≡ placesOf (signOf b) → (l ≡ 0 → ⊥) → p ≡ 0 → x ≡ leafVars b → u ≡ union v x → w ≡ 0 → wholeStep (i + 2) (k + 1) u t ≡ stepOf (length line) (readExpr left (drop at line))
+    unfolding reads
+    sofar-whole x u s h e q m z f g o =
+        let place : length line - length (drop (i + 2) line) ≡ i + 2 = omega (arith, length-drop (i + 2) line) in
+        sym
+        (leaf-read x u s e q m z f g
+        ∙ ap (λ (y : ℕ). reads (length line) (levels (left - l) y l) (drop (i + 2) line) (k + 1) u t) o
+        ∙ ap (λ (y : List ℕ). reads (length line) y (drop (i + 2) line) (k + 1) u t) (levels-none (left - l) l)
+        ∙ ap (λ (y : ℕ). wholeStep y (k + 1) u t) place)
 
-    pub step-two : (u g t : Bool) (v : ℕ) → b ≡ kindOf (drop at l) → k ≡ placesOf (signOf b) → (k ≡ 3 → ⊥) → (left ≡ 0 → ⊥) → (k ≡ 0 → ⊥) → a ≡ stepOf (length l) (readExpr (left - 1) (drop (at + 2) l)) → a .stop ≡ 0 → (k ≡ 1 → ⊥) → c ≡ stepOf (length l) (readExpr (left - 1) (drop (a .next) l)) → c .stop ≡ 0 → u ≡ leb 69 b → v ≡ union (a .vars) (c .vars) → g ≡ (a .temporal || c .temporal) → t ≡ (u || g) → wholeStep (c .next) (a .nodes + c .nodes + 1) v t ≡ stepOf (length l) (readExpr left (drop at l))
-    unfolding nodes written
-    step-two u some t v e p n m z h s q d f j i both w =
-        let o = a-two p n z q in
-        let g = two-begins (o .0) (o .1) (sign-inside l at left b k e p n) e m h s in
-        let x : Expr = g .0 in
-        let y = whole-when (length l) c (readExpr (left - 1) (drop (a .next) l)) d f in
-        let own : c ≡ stepOf (length l) (Whole (y .0) (y .1)) = d ∙ ap (stepOf (length l)) (y .2) in
-        let begun : Begun b (Between (o .0)) = subst (Begun b) (o .1) (code-begun b) in
-        let more : a .nodes + c .nodes + 1 ≡ 1 + (nodes x + nodes (y .0)) = omega (arith, g .1, ap (λ (k : Step). k .nodes) own) in
-        let vars : v ≡ union (written x) (written (y .0)) = i ∙ ap (λ (k : ℕ). union k (c .vars)) (g .2) ∙ ap (λ (k : Step). union (written x) (k .vars)) own in
-        let ever : t ≡ temporal (Two (o .0) x (y .0)) = w ∙ ap (λ (k : Bool). u || k) both ∙ ap (λ (k : Bool). k || (a .temporal || c .temporal)) j ∙ ap (λ (k : Bool). leb 69 b || (k || c .temporal)) (g .3) ∙ ap (λ (k : Step). leb 69 b || (temporal x || k .temporal)) own ∙ sym (begun .1 x (y .0)) in
-        ap (λ (k : ℕ). wholeStep (c .next) k v t) more
-        ∙ ap (λ (k : ℕ). wholeStep (c .next) (1 + (nodes x + nodes (y .0))) k t) vars
-        ∙ ap (wholeStep (c .next) (1 + (nodes x + nodes (y .0))) (union (written x) (written (y .0)))) ever
-        ∙ ap (λ (k : Step). wholeStep (k .next) (1 + (nodes x + nodes (y .0))) (union (written x) (written (y .0))) (temporal (Two (o .0) x (y .0)))) own
-        ∙ ap (stepOf (length l)) (sym (g .4 ∙ ap (λ (k : Reading). onward k (λ r last. Whole (Two (o .0) x r) last)) (y .2)))
+    module _ (s : ℕ) where
+      comes : l ≤ left → left ≤ 64 → w < 2 ^ (left - l) → (w ≡ 0 → ⊥) → s ≡ lowestOf w → Nearest (left - l) w l s
+      comes h m j n e = subst (Nearest (left - l) w l) (sym e) (nearest 64 (left - l) w l (omega arith) j n)
+
+      pub comes-some : l ≤ left → left ≤ 64 → w < 2 ^ (left - l) → (w ≡ 0 → ⊥) → s ≡ lowestOf w → 1 ≤ w / 2 ^ s
+      comes-some h m j n e = comes h m j n e .some
+
+      pub comes-near : l ≤ left → left ≤ 64 → w < 2 ^ (left - l) → (w ≡ 0 → ⊥) → s ≡ lowestOf w → l + s ≤ left
+      comes-near h m j n e = omega (arith, comes h m j n e .few)
+
+      pub comes-fits : l ≤ left → left ≤ 64 → w < 2 ^ (left - l) → (w ≡ 0 → ⊥) → s ≡ lowestOf w → l + s < 2 ^ 64
+      comes-fits h m j n e = omega (arith, comes-near h m j n e)
+
+      left-less : left - l - s ≡ left - (l + s)
+      left-less = omega arith
+
+      pub comes-within : l ≤ left → left ≤ 64 → w < 2 ^ (left - l) → (w ≡ 0 → ⊥) → s ≡ lowestOf w → s < 64
+      comes-within h m j n e = omega (arith, comes h m j n e .few)
+
+      pub comes-less : l ≤ left → left ≤ 64 → w < 2 ^ (left - l) → (w ≡ 0 → ⊥) → s ≡ lowestOf w → w / 2 ^ s - 1 < 2 ^ (left - (l + s))
+      comes-less h m j n e = subst (λ (y : ℕ). w / 2 ^ s - 1 < 2 ^ y) left-less (comes h m j n e .less)
+
+      pub sofar-leaf : (x u : ℕ) → Sofar → b ≡ kindOf (drop i line) → p ≡ placesOf (signOf b) → (l ≡ 0 → ⊥) → p ≡ 0 → x ≡ leafVars b → u ≡ union v x → l ≤ left → left ≤ 64 → w < 2 ^ (left - l) → (w ≡ 0 → ⊥) → s ≡ lowestOf w → stepOf (length line) (readExpr left (drop at line)) ≡ reads (length line) ((l + s) ∷ levels (left - (l + s)) (w / 2 ^ s - 1) (l + s)) (drop (i + 2) line) (k + 1) u t
+      sofar-leaf x u r e q m z f g a d j n o =
+          leaf-read x u r e q m z f g
+          ∙ ap (λ (y : List ℕ). reads (length line) y (drop (i + 2) line) (k + 1) u t) (comes a d j n o .levels-are)
+          ∙ ap (λ (y : ℕ). reads (length line) ((l + s) ∷ levels y (w / 2 ^ s - 1) (l + s)) (drop (i + 2) line) (k + 1) u t) left-less
+
+    -- A sign: its operands come next.
+    pub sofar-less : (c : ℕ) → l ≤ left → (l ≡ 0 → ⊥) → w < 2 ^ (left - l) → p ≡ placesOf (signOf b) → (p ≡ 3 → ⊥) → (p ≡ 0 → ⊥) → c ≡ p - 1 → 2 * w + c < 2 ^ (left - (l - 1))
+    sofar-less c h m j q n z e =
+        let more : left - (l - 1) ≡ suc (left - l) = omega arith in
+        subst (λ (y : ℕ). 2 * w + c < 2 ^ y) (sym more) (omega (arith, pow-suc 2 (left - l), e, places-most b p q n))
+
+    -- The word of the operands to come fits.
+    pub sofar-fits : (c : ℕ) → l ≤ left → left ≤ 64 → (l ≡ 0 → ⊥) → w < 2 ^ (left - l) → p ≡ placesOf (signOf b) → (p ≡ 3 → ⊥) → (p ≡ 0 → ⊥) → c ≡ p - 1 → 2 * w + c < 2 ^ 64
+    sofar-fits c h m n j q r z e = let few : left - (l - 1) ≤ 64 = omega arith in lt-of-lt-of-le (sofar-less c h n j q r z e) (pow-mono few)
+
+    pub sofar-doubled : l ≤ left → left ≤ 64 → (l ≡ 0 → ⊥) → w < 2 ^ (left - l) → p ≡ placesOf (signOf b) → (p ≡ 3 → ⊥) → (p ≡ 0 → ⊥) → 2 * w < 2 ^ 64
+    sofar-doubled h m n j q r z = omega (arith, sofar-fits (p - 1) h m n j q r z refl)
+
+    pub sofar-sign : (c : ℕ) (a u : Bool) → Sofar → b ≡ kindOf (drop i line) → p ≡ placesOf (signOf b) → (p ≡ 3 → ⊥) → (l ≡ 0 → ⊥) → (p ≡ 0 → ⊥) → l ≤ left → a ≡ leb 69 b → u ≡ (a || t) → c ≡ p - 1 → stepOf (length line) (readExpr left (drop at line)) ≡ reads (length line) ((l - 1) ∷ levels (left - (l - 1)) (2 * w + c) (l - 1)) (drop (i + 2) line) (k + 1) v u
+    sofar-sign c a u s e q n m z h f g d = go (signOf b) refl
+      where
+        more : l ≡ suc (l - 1)
+        more = omega arith
+
+        ever : leb 69 (kindOf (drop i line)) || t ≡ u
+        ever = ap (λ (y : ℕ). leb 69 y || t) (sym e) ∙ ap (λ (y : Bool). y || t) (sym f) ∙ sym g
+
+        -- The levels behind the digit of the sign are those before it.
+        behind : (y : ℕ) → c ≡ y → y < 2 → levels (left - (l - 1)) (2 * w + c) (l - 1) ≡ due y (l - 1) (levels (left - l) w l)
+        behind y r o =
+            let deeper : left - (l - 1) ≡ suc (left - l) = omega arith in
+            let back : l - 1 + 1 ≡ l = omega arith in
+            ap (λ (j : ℕ). levels (left - (l - 1)) (2 * w + j) (l - 1)) r
+            ∙ ap (λ (j : ℕ). levels j (2 * w + y) (l - 1)) deeper
+            ∙ levels-more (left - l) w y (l - 1) o
+            ∙ ap (λ (j : ℕ). due y (l - 1) (levels (left - l) w j)) back
+
+        begin : Sofar → stepOf (length line) (readExpr left (drop at line)) ≡ reads (length line) (suc (l - 1) ∷ levels (left - l) w l) (drop i line) k v t
+        begin r = r ∙ ap (λ (y : ℕ). reads (length line) (y ∷ levels (left - l) w l) (drop i line) k v t) more
+
+        finish : (ls : List ℕ) → (levels (left - (l - 1)) (2 * w + c) (l - 1) ≡ ls) → reads (length line) ((l - 1) ∷ ls) (drop 2 (drop i line)) (k + 1) v (leb 69 (kindOf (drop i line)) || t) ≡ reads (length line) ((l - 1) ∷ levels (left - (l - 1)) (2 * w + c) (l - 1)) (drop (i + 2) line) (k + 1) v u
+        finish ls r =
+            ap (λ (y : List ℕ). reads (length line) ((l - 1) ∷ ls) y (k + 1) v (leb 69 (kindOf (drop i line)) || t)) (drop-drop 2 i line)
+            ∙ ap (reads (length line) ((l - 1) ∷ ls) (drop (i + 2) line) (k + 1) v) ever
+            ∙ ap (λ (y : List ℕ). reads (length line) ((l - 1) ∷ y) (drop (i + 2) line) (k + 1) v u) (sym r)
+
+        go : (y : Sign) → signOf b ≡ y → stepOf (length line) (readExpr left (drop at line)) ≡ reads (length line) ((l - 1) ∷ levels (left - (l - 1)) (2 * w + c) (l - 1)) (drop (i + 2) line) (k + 1) v u
+        go (Leaf x) r = absurd (z (q ∙ ap placesOf r))
+        go (Before o) r =
+            let none : c ≡ 0 = omega (arith, d, q ∙ ap placesOf r) in
+            begin s ∙ reads-one (length line) (levels (left - l) w l) (drop i line) k v t (l - 1) o (ap signOf (sym e) ∙ r) ∙ finish (levels (left - l) w l) (behind 0 none (omega arith))
+        go (Between o) r =
+            let one : c ≡ 1 = omega (arith, d, q ∙ ap placesOf r) in
+            begin s ∙ reads-two (length line) (levels (left - l) w l) (drop i line) k v t (l - 1) o (ap signOf (sym e) ∙ r) ∙ finish ((l - 1) ∷ levels (left - l) w l) (behind 1 one (omega arith))
+        go NoSign r = absurd (n (q ∙ ap placesOf r))
+
+pub none-pending : (n : ℕ) → 0 < 2 ^ n
+none-pending n = pow-pos n
+
+-- Nothing was read, and the whole is still to be read.
+pub sofar-begun : (line : List ℕ) (at left : ℕ) → Sofar line at left at left 0 0 0 false
+unfolding levels
+sofar-begun line at left =
+    sym (ap (λ (y : List ℕ). reads (length line) (left ∷ y) (drop at line) 0 0 false) (levels-none (left - left) left) ∙ reads-alone (length line) left (drop at line))
 
 -- ---- nodes stored
 
@@ -483,31 +688,27 @@ nodesOf-next : (i : ℕ) (cs : List ℕ) → nodesOf (i + 1) cs ≡ nodesOf i cs
 unfolding nodesOf
 nodesOf-next i cs = nodesOf-add i 1 cs
 
-module _ (line : List ℕ) (at n used : ℕ) (was out : List ℕ) where
-  pub store-begun : was ≡ splice used (nodesOf 0 (drop at line)) was
+pub set-none : (l : List ℕ) (i x : ℕ) → length l ≤ i → l ≡ set l i x
+set-none l i x h = sym (set-out l i x h)
+
+module _ (line : List ℕ) (at used : ℕ) (was : List ℕ) where
+  pub kept-none : Kept line at used 0 was was
   unfolding nodesOf
-  store-begun = sym (splice-nothing used was)
+  kept-none = record { long = refl; nodes-are = λ h. sym (splice-nothing used was) }
 
-  pub store-next : (i b v : ℕ) (now : List ℕ) → now ≡ set out (used + i) v → v ≡ nodeOf b → b ≡ kindOf (drop (at + 2 * i) line) → out ≡ splice used (nodesOf i (drop at line)) was → i < n → used + n ≤ length was → now ≡ splice used (nodesOf (i + 1) (drop at line)) was
-  store-next i b v now r q p e k h =
-      let is : length (nodesOf i (drop at line)) ≡ i = length-nodesOf i (drop at line) in
-      let long : length out ≡ length was = ap (λ (l : List ℕ). length l) e ∙ length-splice used (nodesOf i (drop at line)) was (omega (arith, is)) in
-      let node : v ≡ nodeOf (kindOf (drop (2 * i) (drop at line))) = q ∙ ap nodeOf p ∙ ap (λ (l : List ℕ). nodeOf (kindOf l)) (sym (drop-drop (2 * i) at line)) in
-      let there : used + i ≡ used + length (nodesOf i (drop at line)) = omega (arith, is) in
-      r
-      ∙ set-splice out (used + i) v (omega arith)
-      ∙ ap (λ (x : ℕ). splice x (v ∷ []) out) there
-      ∙ ap (splice (used + length (nodesOf i (drop at line))) (v ∷ [])) e
-      ∙ splice-splice used (nodesOf i (drop at line)) (v ∷ []) was (omega arith)
-      ∙ ap (λ (x : ℕ). splice used (nodesOf i (drop at line) ++ x ∷ []) was) node
-      ∙ ap (λ (l : List ℕ). splice used l was) (sym (nodesOf-next i (drop at line)))
-
-  pub store-room : (i : ℕ) → used + n ≤ length was → i < n → out ≡ splice used (nodesOf i (drop at line)) was → used + i < length out
-  store-room i h k e =
-      omega (
-        arith,
-        ap (λ (l : List ℕ). length l) e ∙ length-splice used (nodesOf i (drop at line)) was (omega (arith, length-nodesOf i (drop at line))),
-      )
-
-  pub store-done : (i : ℕ) → i ≤ n → n ≤ i → out ≡ splice used (nodesOf i (drop at line)) was → out ≡ splice used (nodesOf n (drop at line)) was
-  store-done i h k e = let same : i ≡ n = omega arith in e ∙ ap (λ (m : ℕ). splice used (nodesOf m (drop at line)) was) same
+  pub kept-next : (n i b v : ℕ) (out now : List ℕ) → Kept line at used n was out → i ≡ at + 2 * n → b ≡ kindOf (drop i line) → v ≡ nodeOf b → now ≡ set out (used + n) v → Kept line at used (n + 1) was now
+  kept-next n i b v out now k e p q r = record { long = ap (λ (l : List ℕ). length l) r ∙ length-set out (used + n) v ∙ k .long; nodes-are = more }
+    where
+      more : used + (n + 1) ≤ length was → now ≡ splice used (nodesOf (n + 1) (drop at line)) was
+      more h =
+          let is : length (nodesOf n (drop at line)) ≡ n = length-nodesOf n (drop at line) in
+          let place : at + 2 * n ≡ i = omega (arith, e) in
+          let node : v ≡ nodeOf (kindOf (drop (2 * n) (drop at line))) = q ∙ ap nodeOf p ∙ ap (λ (l : List ℕ). nodeOf (kindOf l)) (sym (drop-drop (2 * n) at line ∙ ap (λ (j : ℕ). drop j line) place)) in
+          let there : used + n ≡ used + length (nodesOf n (drop at line)) = omega (arith, is) in
+          r
+          ∙ set-splice out (used + n) v (omega (arith, k .long))
+          ∙ ap (λ (x : ℕ). splice x (v ∷ []) out) there
+          ∙ ap (splice (used + length (nodesOf n (drop at line))) (v ∷ [])) (k .nodes-are (omega arith))
+          ∙ splice-splice used (nodesOf n (drop at line)) (v ∷ []) was (omega (arith, is))
+          ∙ ap (λ (x : ℕ). splice used (nodesOf n (drop at line) ++ x ∷ []) was) node
+          ∙ ap (λ (l : List ℕ). splice used l was) (sym (nodesOf-next n (drop at line)))

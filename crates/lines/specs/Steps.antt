@@ -1,10 +1,12 @@
 -- What the readers of one line answer.
+use mathlib.Core.Path.{_≡_}
 use mathlib.Core.Bool.{Bool, true, false}
 use mathlib.Core.List.{List, [], _∷_}
 use mathlib.Core.Option.{Option, none, some}
-use Prim.Native.Nat.{ℕ, zero, suc, _+_, _-_}
+use Prim.Native.Nat.{ℕ, zero, suc, _+_, _-_, _≤_}
 use lib.Dec.{ltb, eqb}
 use lib.ListN.{length, drop}
+use Rattle.lists.specs.Lists.{splice}
 use Rattle.sets.specs.Sets.{only}
 use Rattle.logic.specs.Expressions.{nodes, written, temporal}
 use Rattle.frames.specs.Hex.{number}
@@ -48,3 +50,8 @@ nodeOf b = elim (ltb b 64) [ true ↦ b | false ↦ b - 64 + 256 ]
 unfoldable pub nodesOf : ℕ → List ℕ → List ℕ
 nodesOf zero cs = []
 nodesOf (suc n) cs = nodeOf (kindOf cs) ∷ nodesOf n (drop 2 cs)
+
+-- A row that keeps the nodes of n pairs from a place of a line on, wherever it has room for them.
+pub record Kept (line : List ℕ) (at used n : ℕ) (was out : List ℕ) : Type 0 where
+  pub long : length out ≡ length was
+  pub nodes-are : used + n ≤ length was → out ≡ splice used (nodesOf n (drop at line)) was

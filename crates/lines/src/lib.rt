@@ -3,10 +3,9 @@ ghost use mathlib.Core.Path.{_≡_};
 ghost use mathlib.Core.Bool.{_||_};
 ghost use Prim.Native.Nat.{_+_, _*_, _<_, _≤_};
 ghost use lib.ListN.{length, drop, set};
-ghost use Rattle.lists.specs.Lists.{splice};
 ghost use Rattle.frames.specs.Hex.{digitOf, number};
 ghost use Rattle.frames.specs.Read.{signOf, kindOf, readExpr};
-ghost use Rattle.lines.specs.Steps.{numberRead, countIs, placesOf, stepOf, leafVars, nodeOf, nodesOf};
+ghost use Rattle.lines.specs.Steps.{numberRead, countIs, placesOf, stepOf, leafVars, nodeOf, Kept};
 
 // What stands where no pair is.
 pub const NO_PAIR: u64 = 256;
@@ -168,67 +167,6 @@ fn either(a: bool, b: bool) -> bool
     b
 }
 
-// The expression whose pairs begin at a place of the line, with as many levels left as given.
-pub fn expression(line: &[u8], at: usize, left: usize) -> Step
-    requires { ⌜ at ≤ length (now line) ⌝ }
-    ensures { λ r. ⌜ (r ≡ stepOf (length (now (line .entry))) (readExpr left (drop at (now (line .entry))))) × (at + 2 * r .nodes ≤ r .next) × (r .next ≤ length (now (line .entry))) ⌝ }
-{
-    let b = pair_at(line, at);
-    let k = places(b);
-    if k == 3 {
-        return Step {
-            stop: WRONG,
-            next: at,
-            nodes: 0,
-            vars: 0,
-            temporal: false,
-        };
-    }
-    if left == 0 {
-        return Step {
-            stop: DEEP,
-            next: at,
-            nodes: 0,
-            vars: 0,
-            temporal: false,
-        };
-    }
-    if k == 0 {
-        return Step {
-            stop: WHOLE,
-            next: at + 2,
-            nodes: 1,
-            vars: leaf_vars(b),
-            temporal: false,
-        };
-    }
-    let first = expression(line, at + 2, left - 1);
-    if first.stop != WHOLE {
-        return first;
-    }
-    let always = NEXT <= b;
-    if k == 1 {
-        return Step {
-            stop: WHOLE,
-            next: first.next,
-            nodes: first.nodes + 1,
-            vars: first.vars,
-            temporal: either(always, first.temporal),
-        };
-    }
-    let second = expression(line, first.next, left - 1);
-    if second.stop != WHOLE {
-        return second;
-    }
-    Step {
-        stop: WHOLE,
-        next: second.next,
-        nodes: first.nodes + second.nodes + 1,
-        vars: sets::union(first.vars, second.vars),
-        temporal: either(always, either(first.temporal, second.temporal)),
-    }
-}
-
 // The node of a code.
 fn node_of(b: u64) -> u16
     requires { ⌜ b ≤ 256 ⌝ }
@@ -248,14 +186,76 @@ pub fn put_node(nodes: &mut [u16], i: usize, n: u16)
     nodes[i] = n;
 }
 
-// The nodes of n pairs from a place of the line on, stored from a place of the lent row on.
-pub fn store_nodes(line: &[u8], at: usize, n: usize, out: &mut [u16], used: usize)
-    requires { ⌜ (at + 2 * n ≤ length (now line)) × (used + n ≤ length (now out)) ⌝ }
-    ensures { λ _. ⌜ now (out .exit) ≡ splice used (nodesOf n (drop at (now (line .entry)))) (now (out .entry)) ⌝ }
+// A node stored at a place of a row of nodes, where the row has that place.
+fn keep_node(nodes: &mut [u16], i: usize, n: u16)
+    ensures { λ _. ⌜ now (nodes .exit) ≡ set (now (nodes .entry)) i n ⌝ }
 {
-    let mut i = 0;
-    while i < n {
-        put_node(out, used + i, node_of(pair_at(line, at + 2 * i)));
-        i += 1;
+    if i < nodes.len() {
+        nodes[i] = n;
+    }
+}
+
+// The expression whose pairs begin at a place of the line, with as many levels left as given. Its nodes are kept from a place of the lent row on, as far as the row has room.
+pub fn expression(line: &[u8], at: usize, left: usize, out: &mut [u16], used: usize) -> Step
+    requires { ⌜ (at ≤ length (now line)) × (left ≤ 64) × (used ≤ length (now out)) ⌝ }
+    ensures { λ r. ⌜ (r ≡ stepOf (length (now (line .entry))) (readExpr left (drop at (now (line .entry))))) × (at + 2 * r .nodes ≤ r .next) × (r .next ≤ length (now (line .entry))) × (length (now (out .exit)) ≡ length (now (out .entry))) × (r .stop ≡ 0 → Kept (now (line .entry)) at used (r .nodes) (now (out .entry)) (now (out .exit))) ⌝ }
+{
+    let mut i = at;
+    let mut l = left;
+    // Digit j is set where the sign j + 1 levels up has its second operand to come.
+    let mut pending = 0u64;
+    let mut nodes = 0;
+    let mut vars = 0u64;
+    let mut temporal = false;
+    while i + 1 < line.len() {
+        let b = pair_at(line, i);
+        let k = places(b);
+        if k == 3 {
+            return Step {
+                stop: WRONG,
+                next: i,
+                nodes: 0,
+                vars: 0,
+                temporal: false,
+            };
+        }
+        if l == 0 {
+            return Step {
+                stop: DEEP,
+                next: i,
+                nodes: 0,
+                vars: 0,
+                temporal: false,
+            };
+        }
+        keep_node(out, used + nodes, node_of(b));
+        i += 2;
+        nodes += 1;
+        if k == 0 {
+            vars = sets::union(vars, leaf_vars(b));
+            if pending == 0 {
+                return Step {
+                    stop: WHOLE,
+                    next: i,
+                    nodes: nodes,
+                    vars: vars,
+                    temporal: temporal,
+                };
+            }
+            let z = sets::lowest(pending);
+            pending = (pending >> z) - 1;
+            l += z;
+        } else {
+            temporal = either(NEXT <= b, temporal);
+            l -= 1;
+            pending = 2 * pending + wide(k - 1);
+        }
+    }
+    Step {
+        stop: WRONG,
+        next: i,
+        nodes: 0,
+        vars: 0,
+        temporal: false,
     }
 }
