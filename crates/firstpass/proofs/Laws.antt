@@ -1,16 +1,16 @@
 -- Laws of one card and of the first pass.
 use mathlib.Core.Path.{_≡_, refl, sym, ap, _∙_}
 use mathlib.Core.Logic.{by-cases}
-use mathlib.Core.Bool.{Bool, true, false, not, _&&_, _||_}
+use mathlib.Core.Bool.{Bool, true, false, not, _&&_, _||_, and-false}
 use mathlib.Core.List.{List, [], _∷_, _++_, append-nil}
 use Prim.Native.Nat.{ℕ, zero, suc, _+_, _-_, _<_, _≤_, min}
 use native.Mathlib.Omega.{arith}
 use native.Mathlib.Numerals.{add-one}
 use native.Mathlib.Decide.{ℕ-discrete, decLe, decLt}
-use lib.Dec.{ltb, eqb}
+use lib.Dec.{leb, ltb, eqb}
 use lib.ListN.{length, take, drop, getD, replicate, length-drop, length-take, drop-of-length-le, List·getD-eq-default}
-use lib.Seq.{take-all, drop-cons}
-use borrow.Author.Tests.{lt-leb, le-leb, lt-ltb, le-ltb, eq-eqb, ne-eqb}
+use lib.Seq.{take-all, drop-cons, drop-drop, getD-drop}
+use borrow.Author.Tests.{lt-leb, le-leb, lt-ltb, le-ltb, eq-eqb, ne-eqb, not-true, not-false}
 use Rattle.lists.specs.Lists.{ended, unended}
 use Rattle.lists.proofs.Laws.{getD-any, take-min, drop-take, take-filled}
 use Rattle.decks.specs.declared.Answer.{Answer}
@@ -92,25 +92,100 @@ every-blank (c ∷ cs) =
     ap (λ (b : Bool). elim b [ true ↦ every (between 32 32) cs | false ↦ false ]) (blank-between c)
     ∙ ap (λ (b : Bool). elim (isBlank c) [ true ↦ b | false ↦ false ]) (every-blank cs)
 
-module _ (part : List ℕ) (low high i : ℕ) where
+module _ (part : List ℕ) (low high i : ℕ) (all : Bool) where
   abbrev Left : Type 0
-  Left = every (between low high) part ≡ every (between low high) (drop i part)
+  Left = all ≡ every (between low high) (drop i part)
 
-  next-byte : i < length part → Left → every (between low high) part ≡ every (between low high) (getD part i 0 ∷ drop (i + 1) part)
+  next-byte : i < length part → Left → all ≡ every (between low high) (getD part i 0 ∷ drop (i + 1) part)
   next-byte h e = e ∙ ap (every (between low high)) (drop-cons part i 0 h) ∙ ap (λ (k : ℕ). every (between low high) (getD part i 0 ∷ drop k part)) (sym (add-one i))
 
-  pub byte-below : i < length part → Left → getD part i 0 < low → false ≡ every (between low high) part
+  pub byte-below : i < length part → Left → getD part i 0 < low → false ≡ all
   byte-below h e b = sym (next-byte h e ∙ every-fail (between low high) (getD part i 0) (drop (i + 1) part) (simp (lt-leb low (getD part i 0) b)))
 
-  pub byte-above : i < length part → Left → low ≤ getD part i 0 → high < getD part i 0 → false ≡ every (between low high) part
+  pub byte-above : i < length part → Left → low ≤ getD part i 0 → high < getD part i 0 → false ≡ all
   byte-above h e b a = sym (next-byte h e ∙ every-fail (between low high) (getD part i 0) (drop (i + 1) part) (simp (le-leb low (getD part i 0) b, lt-leb (getD part i 0) high a)))
 
-  pub byte-between : i < length part → Left → low ≤ getD part i 0 → getD part i 0 ≤ high → every (between low high) part ≡ every (between low high) (drop (i + 1) part)
+  pub byte-between : i < length part → Left → low ≤ getD part i 0 → getD part i 0 ≤ high → all ≡ every (between low high) (drop (i + 1) part)
   byte-between h e b a = next-byte h e ∙ every-pass (between low high) (getD part i 0) (drop (i + 1) part) (simp (le-leb low (getD part i 0) b, le-leb (getD part i 0) high a))
 
-  pub all-done : length part ≤ i → Left → true ≡ every (between low high) part
+  pub all-done : length part ≤ i → Left → true ≡ all
   unfolding every
   all-done h e = sym (e ∙ ap (every (between low high)) (drop-of-length-le part {i = i} h))
+
+-- ---- blocks of characters
+
+module _ (b x : ℕ) (all : Bool) where
+  pub and-fails : b < x → false ≡ (leb x b && all)
+  and-fails h = ap (λ (t : Bool). t && all) (sym (lt-leb x b h))
+
+  pub and-holds : x ≤ b → all ≡ (leb x b && all)
+  and-holds h = ap (λ (t : Bool). t && all) (sym (le-leb x b h))
+
+module _ (t : ℕ → Bool) where
+  -- One character more.
+  every-more : (i : ℕ) (l : List ℕ) → i < length l → every t (take (suc i) l) ≡ (t (getD l i 0) && every t (take i l))
+  unfolding every
+  every-more i [] h = absurd (omega (arith, h))
+  every-more zero (c ∷ cs) h = go (t c)
+    where
+      go : (b : Bool) → elim b [ true ↦ true | false ↦ false ] ≡ (b && true)
+      go true = refl
+      go false = refl
+  every-more (suc i) (c ∷ cs) h = go (t c) (every-more i cs (omega (arith, h)))
+    where
+      go : (b : Bool) → every t (take (suc i) cs) ≡ (t (getD cs i 0) && every t (take i cs)) → elim b [ true ↦ every t (take (suc i) cs) | false ↦ false ] ≡ (t (getD cs i 0) && elim b [ true ↦ every t (take i cs) | false ↦ false ])
+      go true e = e
+      go false e = sym (and-false (t (getD cs i 0)))
+
+  -- The first k characters, and those behind them.
+  every-split : (k : ℕ) (l : List ℕ) → every t l ≡ (every t (take k l) && every t (drop k l))
+  unfolding every
+  every-split zero l = refl
+  every-split (suc k) [] = refl
+  every-split (suc k) (c ∷ cs) = go (t c) (every-split k cs)
+    where
+      go : (b : Bool) → every t cs ≡ (every t (take k cs) && every t (drop k cs)) → elim b [ true ↦ every t cs | false ↦ false ] ≡ (elim b [ true ↦ every t (take k cs) | false ↦ false ] && every t (drop k cs))
+      go true e = e
+      go false e = refl
+
+module _ (part : List ℕ) (low high : ℕ) where
+  pub block-none : (at : ℕ) → true ≡ every (between low high) (take 0 (drop at part))
+  unfolding every
+  block-none at = refl
+
+  pub block-next : (at i : ℕ) (all from r : Bool)
+      → i < 8
+      → at + 8 ≤ length part
+      → all ≡ every (between low high) (take i (drop at part))
+      → from ≡ (leb low (getD part (at + i) 0) && all)
+      → r ≡ (leb (getD part (at + i) 0) high && from)
+      → r ≡ every (between low high) (take (i + 1) (drop at part))
+  block-next at i all from r h l e p q =
+      rw (q, p, e, add-one i, every-more (between low high) i (drop at part) (omega (arith, length-drop at part)), getD-drop at part i 0)
+      (turned (leb low (getD part (at + i) 0)) (leb (getD part (at + i) 0) high) (every (between low high) (take i (drop at part))))
+    where
+      turned : (a b c : Bool) → (b && (a && c)) ≡ (a && b && c)
+      turned true b c = refl
+      turned false b c = and-false b
+
+  pub block-done : (at i : ℕ) (all : Bool) → 8 ≤ i → i ≤ 8 → all ≡ every (between low high) (take i (drop at part)) → all ≡ every (between low high) (take 8 (drop at part))
+  block-done at i all l h e = let z : i ≡ 8 = omega arith in e ∙ ap (λ (k : ℕ). every (between low high) (take k (drop at part))) z
+
+  module _ (i : ℕ) (e : every (between low high) part ≡ every (between low high) (drop i part)) where
+    split-here : every (between low high) part ≡ (every (between low high) (take 8 (drop i part)) && every (between low high) (drop (i + 8) part))
+    split-here =
+        e
+        ∙ every-split (between low high) 8 (drop i part)
+        ∙ ap (λ (l : List ℕ). every (between low high) (take 8 (drop i part)) && every (between low high) l) (drop-drop 8 i part)
+
+    pub block-fails : (b : Bool) → b ≡ every (between low high) (take 8 (drop i part)) → not b ≡ true → false ≡ every (between low high) part
+    block-fails b q n = sym (split-here ∙ ap (λ (x : Bool). x && every (between low high) (drop (i + 8) part)) (sym q ∙ not-true b n))
+
+    pub block-passes : (b : Bool) → b ≡ every (between low high) (take 8 (drop i part)) → not b ≡ false → every (between low high) part ≡ every (between low high) (drop (i + 8) part)
+    block-passes b q n = split-here ∙ ap (λ (x : Bool). x && every (between low high) (drop (i + 8) part)) (sym q ∙ not-false b n)
+
+    pub rest-done : (r : Bool) → r ≡ every (between low high) (drop i part) → r ≡ every (between low high) part
+    rest-done r q = q ∙ sym e
 
 -- ---- the columns of a card
 

@@ -2,7 +2,8 @@
 ghost use mathlib.Core.Path.{_≡_};
 ghost use mathlib.Core.Bool.{not, _&&_};
 ghost use Prim.Native.Nat.{_+_, _-_, _<_, _≤_, min};
-ghost use lib.ListN.{take, drop};
+ghost use lib.Dec.{leb};
+ghost use lib.ListN.{length, take, drop};
 ghost use Rattle.cards.specs.Card.{cardsOf, fieldStart, fieldEnd, column, columns, every, isBlank, printable, isComment, Continuing, numbered, kindOf, closes, opened, cardInForm, inForm};
 ghost use Rattle.firstpass.specs.Passed.{between, free, kindIs, openOf, outcomeOf, passed};
 use decks::Answer;
@@ -31,11 +32,51 @@ pub enum Carded {
     Fault(Answer),
 }
 
-// Every byte is one of low to high.
-fn all_between(part: &[u8], low: u8, high: u8) -> bool
-    ensures { λ r. ⌜ r ≡ every (between low high) (now (part .entry)) ⌝ }
+// As many bytes as are looked at together.
+const BLOCK: usize = 8;
+
+// All before, and this byte is not below low.
+fn and_from(all: bool, b: u8, low: u8) -> bool
+    ensures { λ r. ⌜ r ≡ (leb low b && all) ⌝ }
 {
+    if b < low {
+        return false;
+    }
+    all
+}
+
+// All before, and this byte is not above high.
+fn and_to(all: bool, b: u8, high: u8) -> bool
+    ensures { λ r. ⌜ r ≡ (leb b high && all) ⌝ }
+{
+    if high < b {
+        return false;
+    }
+    all
+}
+
+// Every byte of a block is one of low to high. No byte is passed over, so that they are looked at side by side.
+fn block_between(part: &[u8], at: usize, low: u8, high: u8) -> bool
+    requires { ⌜ at + 8 ≤ length (now part) ⌝ }
+    ensures { λ r. ⌜ r ≡ every (between low high) (take 8 (drop at (now (part .entry)))) ⌝ }
+{
+    let mut all = true;
     let mut i = 0;
+    while i < BLOCK {
+        let b = part[at + i];
+        let from = and_from(all, b, low);
+        all = and_to(from, b, high);
+        i += 1;
+    }
+    all
+}
+
+// Every byte from a place on is one of low to high.
+fn rest_between(part: &[u8], at: usize, low: u8, high: u8) -> bool
+    requires { ⌜ at ≤ length (now part) ⌝ }
+    ensures { λ r. ⌜ r ≡ every (between low high) (drop at (now (part .entry))) ⌝ }
+{
+    let mut i = at;
     while i < part.len() {
         if part[i] < low {
             return false;
@@ -46,6 +87,20 @@ fn all_between(part: &[u8], low: u8, high: u8) -> bool
         i += 1;
     }
     true
+}
+
+// Every byte is one of low to high.
+fn all_between(part: &[u8], low: u8, high: u8) -> bool
+    ensures { λ r. ⌜ r ≡ every (between low high) (now (part .entry)) ⌝ }
+{
+    let mut i = 0;
+    while BLOCK <= part.len() - i {
+        if !block_between(part, i, low, high) {
+            return false;
+        }
+        i += BLOCK;
+    }
+    rest_between(part, i, low, high)
 }
 
 // The smaller of two.

@@ -4,5 +4,7 @@ pub mod NumberedCards
 pub mod NumberedFrames
 pub mod OperationLaws
 pub mod ReplyLaws
+pub mod Sizes
+pub mod PackLaws
 pub mod Demands
 pub mod Worked

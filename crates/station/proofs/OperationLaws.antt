@@ -36,7 +36,7 @@ use Rattle.station.specs.declared.CountReply.{CountReply}
 use Rattle.station.specs.Promises.{deckReply, countReply, readReply, writeReply, writeBuffer, reduceReply, reduceBuffer, coneReply}
 use Rattle.station.specs.Readable.{Readable}
 use Rattle.station.specs.Exported.{packed, packedReply, Exported}
-use Rattle.station.proofs.Numbered.{Numbered}
+use Rattle.station.proofs.Numbered.{Numbered, fault}
 use Rattle.station.proofs.NumberedCards.{cards-numbered}
 use Rattle.station.proofs.NumberedFrames.{deck-numbered, claim-numbered}
 
@@ -62,7 +62,7 @@ reading-replied read r e (Refused a) f = e ∙ ap (λ (x : DeckRead). deckReply 
 
 readable : (o : Outcome Deck) → Numbered o → ((d : Deck) → o ≡ Got d → Accepted base d) → Readable o
 readable (Got d) h f = f d refl
-readable (Refused a) h f = h .0
+readable (Refused a) h f = fault a h .0
 
 pub cards-readable : (text : List ℕ) → Readable (readCards text)
 cards-readable text = readable (readCards text) (cards-numbered text) (cards-accepted text)
@@ -70,7 +70,10 @@ cards-readable text = readable (readCards text) (cards-numbered text) (cards-acc
 pub frames-readable : (text : List ℕ) → Readable (readDeck text)
 frames-readable text = readable (readDeck text) (deck-numbered text) (deck-read-accepted text)
 
--- What was read of a text of frames.
+-- What was read of a text of cards, or of frames.
+abbrev pub cards-read : (text : List ℕ) (read : DeckRead) → read ≡ deckRead (readCards text) → (o : Outcome Deck) × Readable o × (read ≡ deckRead o)
+cards-read text read e = (readCards text, cards-readable text, e)
+
 abbrev pub frames-read : (text : List ℕ) (read : DeckRead) → read ≡ deckRead (readDeck text) → (o : Outcome Deck) × Readable o × (read ≡ deckRead o)
 frames-read text read e = (readDeck text, frames-readable text, e)
 
@@ -186,7 +189,7 @@ module _ (read : DeckRead) (a : Reply) (is : a ≡ replyOf (read .answer)) where
       where
         go : (o : Outcome Claim) → readClaim (d .vars) claim ≡ o → Numbered o → (M : Claim) × (readClaim (d .vars) claim ≡ Got M) × Sized base M × (m ≡ claimRead (Got M))
         go (Got M) e h = (M, e, claim-read-sized (d .vars) claim M e .0, claim-of d f ∙ ap claimRead e)
-        go (Refused x) e h = absurd (omega (arith, h .0, z, number-of (Refused x) (claim-of d f ∙ ap claimRead e)))
+        go (Refused x) e h = absurd (omega (arith, fault x h .0, z, number-of (Refused x) (claim-of d f ∙ ap claimRead e)))
 
     pub both-there : a .number ≡ 0 → b .number ≡ 0 → (o : Outcome Deck) × Readable o × (read ≡ deckRead o)
         → ((D : Deck) × Accepted base D × (read .deck ≡ stored D)) × ((M : Claim) × Sized base M × (m ≡ claimRead (Got M)))
@@ -281,10 +284,6 @@ module _ (d : Stored) (m : ClaimRead) where
 
 -- ---- exports
 
-pub packed-is : (n t p : ℕ) → n % 256 + 256 * (t % 256) + 65536 * (p % 281474976710656) ≡ packed n t p
-unfolding packed
-packed-is n t p = refl
-
 -- Two places filled.
 pub two-filled : (l : List ℕ) (x y : ℕ) → length l ≡ 2 → set (set l 0 x) 1 y ≡ x ∷ y ∷ []
 two-filled [] x y e = absurd (omega (arith, e))
@@ -298,8 +297,3 @@ export-done s t r counts e x = subst (λ (u : CountReply). Exported u r counts) 
 
 pub packed-done : (r s : Reply) (n : ℕ) → r ≡ s → n ≡ packed (r .number) (r .text) (r .place) → n ≡ packedReply s
 packed-done r s n e f = f ∙ ap packedReply e
-
--- Where number and text fit a byte and the place fits six, the word is number + 256 × text + 65,536 × place.
-pub packed-plain : (n t p : ℕ) → n < 256 → t < 256 → p < 281474976710656 → packed n t p ≡ n + 256 * t + 65536 * p
-unfolding packed
-packed-plain n t p a b c = omega arith

@@ -32,7 +32,7 @@ use Rattle.pieces.specs.Reduced.{pieceBytes, reduced, reducedInto}
 use Rattle.station.specs.declared.DeckReply.{DeckReply}
 use Rattle.station.specs.declared.CountReply.{CountReply}
 use Rattle.station.specs.Promises.{deckReply, countReply, readReply, writeReply, writeBuffer, reduceReply, reduceBuffer, coneReply}
-use Rattle.station.proofs.Numbered.{OfText, Numbered}
+use Rattle.station.proofs.Numbered.{OfText, Numbered, fault}
 use Rattle.station.proofs.NumberedFrames.{deck-numbered, claim-numbered}
 
 -- ---- answers
@@ -77,7 +77,7 @@ read-success (Refused a) z = zero-names-nothing a z
 
 pub read-got : (o : Outcome Deck) → Numbered o → readReply o .number ≡ 0 → (d : Deck) × (o ≡ Got d)
 read-got (Got d) h z = (d, refl)
-read-got (Refused a) h z = absurd (omega (arith, h .0, z))
+read-got (Refused a) h z = absurd (omega (arith, fault a h .0, z))
 
 -- ---- texts into buffers
 
@@ -93,7 +93,7 @@ module _ (n : ℕ) (vs out after : List ℕ) (e : n ≡ length vs) (f : after �
   behind-bytes = ap (λ (m : ℕ). drop m after) from-zero ∙ ap (drop (0 + length vs)) f ∙ drop-splice 0 vs out (omega arith) ∙ ap (λ (m : ℕ). drop m out) (sym from-zero)
 
 -- The text does not fit and nothing changes, or it fits and stands in the first bytes.
-filled-as : (text out : List ℕ)
+pub filled-as : (text out : List ℕ)
     → ((length out < length text) × (filled text out ≡ record { report = record { answer = NoRoom (length text); bytes = 0 }; buffer = out }))
     ⊎ ((length text ≤ length out) × (filled text out ≡ record { report = record { answer = Fine; bytes = length text }; buffer = splice 0 text out }))
 unfolding filled
@@ -126,7 +126,16 @@ write-got (Got d) out h z =
     (λ (l, e). absurd (omega (arith, z, ap (λ (f : Filled). replyOf (f .report .answer) .number) e)))
     (λ (l, e). (d, refl, l, ap (λ (f : Filled). f .report .bytes) e, ap (λ (f : Filled). f .buffer) e))
     (filled-as (deckFrames d) out)
-write-got (Refused a) out h z = absurd (omega (arith, h .0, z))
+write-got (Refused a) out h z = absurd (omega (arith, fault a h .0, z))
+
+-- A write without room.
+pub write-no-room : (o : Outcome Deck) (out : List ℕ) → Numbered o → writeReply o out .number ≡ 17 → (d : Deck) × (o ≡ Got d) × (length out < length (deckFrames d))
+write-no-room (Got d) out h z =
+    ⊎-elim
+    (λ (l, e). (d, refl, l))
+    (λ (l, e). absurd (omega (arith, z, ap (λ (f : Filled). replyOf (f .report .answer) .number) e)))
+    (filled-as (deckFrames d) out)
+write-no-room (Refused a) out h z = absurd (omega (arith, fault a h .1, z))
 
 -- ---- reductions
 
@@ -171,7 +180,7 @@ reduce-got (Got d) out h z =
     (λ (l, e, b). absurd (omega (arith, z, ap (λ (r : Reduced). replyOf (r .answer) .number) e)))
     (λ (l, e, b). (d, refl, l, ap (λ (r : Reduced). r .pieces) e, ap (λ (r : Reduced). r .bytes) e, b))
     (reduced-as d out)
-reduce-got (Refused a) out h z = absurd (omega (arith, h .0, z))
+reduce-got (Refused a) out h z = absurd (omega (arith, fault a h .0, z))
 
 -- A reduction without room: the place is the bytes that all pieces need.
 pub reduce-no-room : (o : Outcome Deck) (out : List ℕ) → Numbered o → reduceReply o out .number ≡ 17
@@ -181,7 +190,7 @@ reduce-no-room (Got d) out h z =
     (λ (l, e, b). (d, refl, l, ap (λ (r : Reduced). replyOf (r .answer) .place) e))
     (λ (l, e, b). absurd (omega (arith, z, ap (λ (r : Reduced). replyOf (r .answer) .number) e)))
     (reduced-as d out)
-reduce-no-room (Refused a) out h z = absurd (omega (arith, h .1, z))
+reduce-no-room (Refused a) out h z = absurd (omega (arith, fault a h .1, z))
 
 -- ---- cones
 
@@ -204,7 +213,7 @@ cone-got (Got d) s h z =
     (subset-dec s (d .vars))
     (λ f. let e = read-cone d s f in (d, refl, f, ap (λ (r : ConeRead). r .set) e, ap (λ (r : ConeRead). r .size) e))
     (λ f. absurd (omega (arith, z, ap (λ (r : ConeRead). replyOf (r .answer) .number) (read-outside d s f))))
-cone-got (Refused a) s h z = absurd (omega (arith, h .0, z))
+cone-got (Refused a) s h z = absurd (omega (arith, fault a h .0, z))
 
 -- ---- claims
 
@@ -227,12 +236,12 @@ checked-both deck claim n = first (readDeck deck) refl (deck-numbered deck)
         → (e : Deck) × (m : Claim) × BothRead deck claim e m × (deckChecked (readDeck deck) claim ≡ verdictAnswer (verdict e m))
     second d e (Got m) f h = (d, m, (e, f), ap (λ (o : Outcome Deck). deckChecked o claim) e ∙ ap (claimChecked d) f)
     second d e (Refused a) f h =
-        absurd (n (subst (λ (b : Answer). OfText (replyOf b .number)) (sym (ap (λ (o : Outcome Deck). deckChecked o claim) e ∙ ap (claimChecked d) f)) h))
+        absurd (n (subst (λ (b : Answer). OfText (replyOf b .number)) (sym (ap (λ (o : Outcome Deck). deckChecked o claim) e ∙ ap (claimChecked d) f)) (fault a h .0, fault a h .1)))
 
     first : (o : Outcome Deck) → readDeck deck ≡ o → Numbered o
         → (e : Deck) × (m : Claim) × BothRead deck claim e m × (deckChecked (readDeck deck) claim ≡ verdictAnswer (verdict e m))
     first (Got d) e h = second d e (readClaim (d .vars) claim) refl (claim-numbered (d .vars) claim)
-    first (Refused a) e h = absurd (n (subst (λ (b : Answer). OfText (replyOf b .number)) (sym (ap (λ (o : Outcome Deck). deckChecked o claim) e)) h))
+    first (Refused a) e h = absurd (n (subst (λ (b : Answer). OfText (replyOf b .number)) (sym (ap (λ (o : Outcome Deck). deckChecked o claim) e)) (fault a h .0, fault a h .1)))
 
 -- The verdict of each number.
 pub verdict-0 : (v : Verdict) → replyOf (verdictAnswer v) .number ≡ 0 → v ≡ Breaking

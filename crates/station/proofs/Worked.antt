@@ -30,7 +30,6 @@ use Rattle.cones.specs.Cone.{coneRead}
 use Rattle.pieces.specs.Reduced.{allFrames, reduced, reducedInto}
 use Rattle.claims.specs.Checked.{checked}
 use Rattle.station.specs.declared.CountReply.{CountReply}
-use Rattle.station.specs.Printed.{refusalFrame, printed}
 use Rattle.station.specs.Promises.{countReply, WritesCards, ReducesCards, FindsCone, ChecksClaim}
 
 -- ---- lines of the table
@@ -151,13 +150,3 @@ rows =
 pub table : Each Answered rows
 unfolding rows text lent over worked workedFrames pieceOne pieceTwo empty emptyFrames resting joined bytes ended unended fronted stands keep firsts others nodes written temporal value code totalNodes follower grown passes cone split piece pieces unrolled truth taken allowed stepsFrom verdict walk leftSet complete hexDigit pairs digitOf byteOf numberFrom codeByte nodePairs stateFrames equationFrames deckFrames signOf readExpr wholeExpr wholeNumber kindOf setLine initLine lastLeft withEquation equationLine propertyLine countLine frameLine deckLine deckEnd readDeck sizesLine stateLine claimLine claimEnd readClaim columns every cardKind opened cardInForm gathered secondDigit readNumber cardSign jointOf past pastJoint cardExpr risingFrom deckOf behind wholeCardExpr wholeCardNumber varsStatement readBinary initStatement withCardEquation equationStatement propStatement endStatement equationOrProp dueStatement statementRead cardsEnd readCards filled coneRead allFrames reduced reducedInto checked ones onesIn trailingZeros
 table = ((refl, refl), ((refl, refl), (refl, (refl, (refl, (refl, (refl, (refl, (refl, (refl, ((refl, refl), (refl, ((refl, refl), (refl, ((refl, refl), (refl, ((refl, refl), (refl, tt))))))))))))))))))
-
--- ---- what the program prints
-
-unfoldable pub tabbed : List ℕ
-tabbed = text ("      VARS 0" ∷ "      INIT" ∷ []) ++ (9 ∷ text ("     PROP 0" ∷ "      END" ∷ []))
-
--- The worked deck prints its pieces whole; a tab in card 3 prints `FF020100000003`.
-pub worked-printed : (printed (readCards worked) 65536 ≡ pieceOne ++ pieceTwo) × (printed (readCards tabbed) 65536 ≡ text ("FF020100000003" ∷ []))
-unfolding tabbed printed refusalFrame text worked workedFrames pieceOne pieceTwo empty emptyFrames resting joined bytes ended unended fronted stands keep firsts others nodes written temporal value code totalNodes follower grown passes cone split piece pieces unrolled truth taken allowed stepsFrom verdict walk leftSet complete hexDigit pairs digitOf byteOf numberFrom codeByte nodePairs stateFrames equationFrames deckFrames signOf readExpr wholeExpr wholeNumber kindOf setLine initLine lastLeft withEquation equationLine propertyLine countLine frameLine deckLine deckEnd readDeck sizesLine stateLine claimLine claimEnd readClaim columns every cardKind opened cardInForm gathered secondDigit readNumber cardSign jointOf past pastJoint cardExpr risingFrom deckOf behind wholeCardExpr wholeCardNumber varsStatement readBinary initStatement withCardEquation equationStatement propStatement endStatement equationOrProp dueStatement statementRead cardsEnd readCards filled coneRead allFrames reduced reducedInto checked ones onesIn trailingZeros
-worked-printed = (refl, refl)

@@ -8,7 +8,7 @@ ghost use Rattle.decks.specs.Stored.{stored, deckRead, claimRead};
 ghost use Rattle.claims.specs.Checked.{verdictAnswer, deckChecked, checked as claimAnswer};
 ghost use Rattle.station.specs.Promises.{deckReply, countReply, readReply, writeReply, writeBuffer, reduceReply, reduceBuffer, coneReply, ReadsFrames, ReadsCards, WritesFrames, WritesCards, ReducesFrames, ReducesCards, FindsCone, ChecksClaim};
 ghost use Rattle.station.specs.Readable.{Readable};
-ghost use Rattle.station.specs.Exported.{packed, packedReply, Exported};
+ghost use Rattle.station.specs.Exported.{packed, packedReply, Packs, CountsPack, Exported};
 ghost use Rattle.frames.specs.Read.{readDeck};
 ghost use Rattle.cards.specs.Read.{readCards};
 ghost use lib.ListN.{length};
@@ -84,9 +84,9 @@ fn written(read: decks::DeckRead, out: &mut [u8]) -> CountReply
     ensures { λ r. ⌜ ((o : Outcome Deck) → Readable o → read ≡ deckRead o → (r ≡ writeReply o (now (out .entry))) × (now (out .exit) ≡ writeBuffer o (now (out .entry)))) ⌝ }
 {
     let answer = read.answer;
-    let a = decks::reply_of(answer);
-    if a.number != 0 {
-        return refusal(a);
+    let before = decks::reply_of(answer);
+    if before.number != 0 {
+        return refusal(before);
     }
     let w = texts::write_deck(read.deck, out);
     let answer = w.answer;
@@ -158,7 +158,8 @@ fn checked(read: decks::DeckRead, claim: &[u8]) -> decks::Reply
     if b.number != 0 {
         return b;
     }
-    decks::reply_of(judged(d, m))
+    let verdict = judged(d, m);
+    decks::reply_of(verdict)
 }
 
 // A deck of cards, read.
@@ -219,14 +220,15 @@ pub fn check<'a>(deck: &'a [u8], claim: &'a [u8]) -> decks::Reply
 
 // Number, text and place in one word.
 fn packed(number: u64, text: u64, place: u64) -> u64
+    requires { ⌜ Packs number text place ⌝ }
     ensures { λ r. ⌜ r ≡ packed number text place ⌝ }
 {
-    number % 256 + 256 * (text % 256) + 65536 * (place % 281474976710656)
+    number + 256 * text + 65536 * place
 }
 
 // The two counts of a reply, and its number, text and place in one word.
 fn export(s: CountReply, counts: &mut [u64]) -> u64
-    requires { ⌜ length (now counts) ≡ 2 ⌝ }
+    requires { ⌜ (length (now counts) ≡ 2) × CountsPack s ⌝ }
     ensures { λ r. ⌜ Exported s r (now (counts .exit)) ⌝ }
 {
     counts[0] = s.first;

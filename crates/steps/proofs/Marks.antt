@@ -15,20 +15,10 @@ use Rattle.lists.specs.Lists.{stands}
 use Rattle.sets.specs.Sets.{bit, only, union, inside, width}
 use Rattle.evaluator.specs.Pending.{Done, following, tops}
 use Rattle.evaluator.proofs.Laws.{done-next, following-next, following-last}
-use Rattle.steps.specs.Steps.{behind, marked, markWord, FirstLacking}
+use Rattle.steps.specs.Steps.{marked, markWord, FirstLacking}
 
-pub follows-on : (n p k : ℕ) → k + 1 < n → k + 1 ≡ following n p k
-follows-on n p k l = omega (arith, following-next n p k (omega arith))
-
-pub follows-last : (n p k h : ℕ) → h ≡ p → n ≤ k + 1 → h ≡ following n p k
-follows-last n p k h e l = omega (arith, following-last n p k (omega arith))
-
-pub agrees-is : (words states : List ℕ) (p v k next t w : ℕ)
-    → next ≡ following (length states) p k
-    → t ≡ bit (getD states next 0) v
-    → w ≡ getD words k 0
-    → eqb (w % 2) t ≡ eqb (tops words k) (bit (behind states p k) v)
-agrees-is words states p v k next t w e q h = rw (h, q, e) refl
+pub agrees-is : (words states : List ℕ) (v k next t w : ℕ) → t ≡ bit (getD states next 0) v → w ≡ getD words k 0 → eqb (w % 2) t ≡ eqb (tops words k) (bit (getD states next 0) v)
+agrees-is words states v k next t w q h = rw (h, q) refl
 
 pub marked-true : (b : Bool) (u v s r : ℕ) → b ≡ true → s ≡ only v % 2 ^ width → r ≡ union u s → r ≡ marked b v u
 unfolding marked
@@ -38,18 +28,51 @@ pub marked-false : (b : Bool) (u v : ℕ) → b ≡ false → u ≡ marked b v u
 unfolding marked
 marked-false b u v e = rw e refl
 
--- One step more.
-pub mark-next : (words states old new after : List ℕ) (p v k u r : ℕ) (b : Bool)
-    → Done (markWord words states p v) k old new
-    → k < length new
-    → b ≡ eqb (tops words k) (bit (behind states p k) v)
-    → u ≡ getD new k 0
-    → r ≡ marked b v u
-    → after ≡ set new k r
-    → Done (markWord words states p v) (k + 1) old after
-unfolding markWord
-mark-next words states old new after p v k u r b d l e g q s =
-    done-next (markWord words states p v) old new after k u r d l g (q ∙ ap (λ (t : Bool). marked t v u) e) s
+pub step-marked : (old after : List ℕ) (k v u r : ℕ) (b c : Bool) → b ≡ c → u ≡ getD old k 0 → r ≡ marked b v u → after ≡ set old k r → after ≡ set old k (marked c v (getD old k 0))
+step-marked old after k v u r b c e g q s = rw (s, q, e, g) refl
+
+module _ (words states old : List ℕ) (p v : ℕ) where
+  -- The mark that a step to the next state leaves.
+  abbrev stepped : List ℕ → ℕ → ℕ → ℕ
+  stepped new k next = marked (eqb (tops words k) (bit (getD states next 0) v)) v (getD new k 0)
+
+  -- One step more, to the state behind it.
+  step-next : (new after : List ℕ) (k next : ℕ)
+      → Done (markWord words states p v) k old new
+      → k < length new
+      → next ≡ following (length states) p k
+      → after ≡ set new k (stepped new k next)
+      → Done (markWord words states p v) (k + 1) old after
+  unfolding markWord
+  step-next new after k next d l e s =
+      done-next (markWord words states p v) old new after k (getD new k 0) (stepped new k next) d l refl
+      (ap (λ (x : ℕ). stepped new k x) e)
+      s
+
+  -- A step with a state behind it.
+  pub mark-on : (new after : List ℕ) (k : ℕ)
+      → Done (markWord words states p v) k old new
+      → length old ≡ length states
+      → k + 1 < length new
+      → after ≡ set new k (marked (eqb (tops words k) (bit (getD states (k + 1) 0) v)) v (getD new k 0))
+      → Done (markWord words states p v) (k + 1) old after
+  mark-on new after k d m l s =
+      let z : k + 1 ≡ following (length states) p k = omega (arith, following-next (length states) p k (omega (arith, d .same))) in
+      step-next new after k (k + 1) d (omega arith) z s
+
+  -- The last step, back to state p.
+  pub mark-last : (new after : List ℕ) (k h : ℕ)
+      → Done (markWord words states p v) k old new
+      → length old ≡ length states
+      → k < length new
+      → length new ≤ k + 1
+      → h ≡ p
+      → after ≡ set new k (marked (eqb (tops words k) (bit (getD states h 0) v)) v (getD new k 0))
+      → Done (markWord words states p v) (length old) old after
+  mark-last new after k h d m b l e s =
+      let z : k + 1 ≡ length old = omega (arith, d .same) in
+      let y : h ≡ following (length states) p k = omega (arith, following-last (length states) p k (omega (arith, d .same))) in
+      rw z at (step-next new after k h d b y s)
 
 -- ---- a state among others
 

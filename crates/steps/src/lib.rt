@@ -7,28 +7,15 @@ ghost use lib.ListN.{length, take, getD, set};
 ghost use Rattle.lists.specs.Lists.{stands};
 ghost use Rattle.sets.specs.Sets.{bit};
 ghost use Rattle.logic.specs.Decks.{Equation, base};
-ghost use Rattle.evaluator.specs.Pending.{All, following, tops};
+ghost use Rattle.evaluator.specs.Pending.{All, tops};
 ghost use Rattle.truths.specs.Worked.{Ready};
-ghost use Rattle.steps.specs.Steps.{behind, marked, markWord, takenWord, Marks, Given, Zeros, FirstLacking};
+ghost use Rattle.steps.specs.Steps.{marked, markWord, takenWord, Marks, Given, Zeros, FirstLacking};
 
-// The number of the state behind step k, of n states.
-fn follower(k: usize, n: usize, p: usize) -> usize
-    requires { ⌜ (k < n) × (p < n) ⌝ }
-    ensures { λ r. ⌜ (r ≡ following n p k) × (r < n) ⌝ }
+// Whether the pending value of state k is the one that v has in the next state.
+fn agrees<'a>(words: &'a [u64], states: &'a [u64], next: usize, v: usize, k: usize) -> bool
+    requires { ⌜ (next < length (now states)) × (k < length (now words)) ⌝ }
+    ensures { λ r. ⌜ r ≡ eqb (tops (now (words .entry)) k) (bit (getD (now (states .entry)) next 0) v) ⌝ }
 {
-    let home = p;
-    if k + 1 < n {
-        return k + 1;
-    }
-    home
-}
-
-// Whether the pending value of state k is the one that v has behind step k.
-fn agrees<'a>(words: &'a [u64], states: &'a [u64], p: usize, v: usize, k: usize) -> bool
-    requires { ⌜ (length (now words) ≡ length (now states)) × (p < length (now states)) × (k < length (now words)) ⌝ }
-    ensures { λ r. ⌜ r ≡ eqb (tops (now (words .entry)) k) (bit (behind (now (states .entry)) p k) v) ⌝ }
-{
-    let next = follower(k, states.len(), p);
     let taken = evaluator::value_at(states, next, v);
     let w = evaluator::word_at(words, k);
     w % 2 == taken
@@ -45,18 +32,35 @@ fn with_mark(u: u64, v: usize, test: bool) -> u64
     u
 }
 
-// v is marked at every step behind which it has the pending value.
+// v is marked at step k, which leads to the next state, where it has the pending value behind it.
+fn mark_step<'a>(
+    marks: &mut [u64],
+    words: &'a [u64],
+    states: &'a [u64],
+    next: usize,
+    v: usize,
+    k: usize,
+)
+    requires { ⌜ (next < length (now states)) × (k < length (now words)) × (k < length (now marks)) ⌝ }
+    ensures { λ _. ⌜ now (marks .exit) ≡ set (now (marks .entry)) k (marked (eqb (tops (now (words .entry)) k) (bit (getD (now (states .entry)) next 0) v)) v (getD (now (marks .entry)) k 0)) ⌝ }
+{
+    let test = agrees(words, states, next, v, k);
+    let u = evaluator::word_at(marks, k);
+    evaluator::put_word(marks, k, with_mark(u, v, test));
+}
+
+// v is marked at every step behind which it has the pending value. The last step stands apart, so that the loop has no branch.
 fn mark<'a>(marks: &mut [u64], words: &'a [u64], states: &'a [u64], p: usize, v: usize)
     requires { ⌜ (length (now words) ≡ length (now states)) × (length (now marks) ≡ length (now states)) × (p < length (now states)) ⌝ }
     ensures { λ _. ⌜ All (markWord (now (words .entry)) (now (states .entry)) p v) (now (marks .entry)) (now (marks .exit)) ⌝ }
 {
+    let home = p;
     let mut k = 0;
-    while k < marks.len() {
-        let test = agrees(words, states, p, v, k);
-        let u = evaluator::word_at(marks, k);
-        evaluator::put_word(marks, k, with_mark(u, v, test));
+    while k + 1 < marks.len() {
+        mark_step(marks, words, states, k + 1, v, k);
         k += 1;
     }
+    mark_step(marks, words, states, home, v, k);
 }
 
 // Every word without its topmost value.

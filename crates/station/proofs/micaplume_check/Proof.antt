@@ -4,18 +4,19 @@ use Rattle.station.proofs.micaplume_check.Tie as tie
 use Rattle.station.proofs.micaplume_check.Reads as reads
 use Rattle.station.proofs.micaplume_check.Lts as lts
 use Rattle.station.proofs.OperationLaws as laws
+use Rattle.station.proofs.PackLaws as packs
 use Rattle.station.proofs.check.Reads as check-reads
 use Rattle.station.proofs.packed.Reads as packed-reads
 
--- src/lib.rt:252:9
+-- src/lib.rt:246:9
 check-requires : tie.Need-check-requires
 check-requires c κs = search needs
 
--- src/lib.rt:253:5
+-- src/lib.rt:247:5
 packed-requires : tie.Need-packed-requires
-packed-requires c κs = search needs
+packed-requires c κs = search (needs, packs.check-packs)
 
--- src/lib.rt:248:1
+-- src/lib.rt:242:1
 returns : tie.Need-returns
 returns c = search (needs, laws.packed-done)
 

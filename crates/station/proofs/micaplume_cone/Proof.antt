@@ -4,18 +4,19 @@ use Rattle.station.proofs.micaplume_cone.Tie as tie
 use Rattle.station.proofs.micaplume_cone.Reads as reads
 use Rattle.station.proofs.micaplume_cone.Lts as lts
 use Rattle.station.proofs.OperationLaws as laws
+use Rattle.station.proofs.PackLaws as packs
 use Rattle.station.proofs.cone.Reads as cone-reads
 use Rattle.station.proofs.export.Reads as export-reads
 
--- src/lib.rt:244:12
+-- src/lib.rt:238:12
 cone-requires : tie.Need-cone-requires
 cone-requires c κs = search needs
 
--- src/lib.rt:244:5
+-- src/lib.rt:238:5
 export-requires : tie.Need-export-requires
-export-requires c κs = search needs
+export-requires c κs = search (needs, packs.cone-packs)
 
--- src/lib.rt:240:1
+-- src/lib.rt:234:1
 returns : tie.Need-returns
 returns c = search (needs, laws.export-done)
 

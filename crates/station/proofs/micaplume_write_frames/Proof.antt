@@ -4,22 +4,23 @@ use Rattle.station.proofs.micaplume_write_frames.Tie as tie
 use Rattle.station.proofs.micaplume_write_frames.Reads as reads
 use Rattle.station.proofs.micaplume_write_frames.Lts as lts
 use Rattle.station.proofs.OperationLaws as laws
+use Rattle.station.proofs.PackLaws as packs
 use Rattle.station.proofs.export.Reads as export-reads
 use Rattle.station.proofs.write_frames.Reads as write-frames-reads
 
--- src/lib.rt:224:12
+-- src/lib.rt:222:12
 write-frames-requires : tie.Need-write-frames-requires
 write-frames-requires c κs = search needs
 
--- src/lib.rt:224:5
+-- src/lib.rt:222:5
 export-requires : tie.Need-export-requires
-export-requires c κs = search needs
+export-requires c κs = search (needs, packs.write-frames-packs)
 
--- src/lib.rt:216:1
+-- src/lib.rt:218:1
 same-length : tie.Need-same-length
 same-length c = search needs
 
--- src/lib.rt:216:1
+-- src/lib.rt:218:1
 returns : tie.Need-returns
 returns c = let w = c .before .before .before .before .write-frames .ensures in (laws.export-done _ _ _ _ (w .0) (c .export .ensures), w .1)
 

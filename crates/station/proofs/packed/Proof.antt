@@ -3,7 +3,6 @@ use Rattle.station.proofs.packed.Statement.{statement}
 use Rattle.station.proofs.packed.Tie as tie
 use Rattle.station.proofs.packed.Reads as reads
 use Rattle.station.proofs.packed.Lts as lts
-use Rattle.station.proofs.OperationLaws as laws
 
 -- src/lib.rt:202:20
 mul-result : tie.Need-mul-result
@@ -23,7 +22,7 @@ add-result-2 c = search needs
 
 -- src/lib.rt:199:1
 returns : tie.Need-returns
-returns c = search (needs, laws.packed-is)
+returns c = search needs
 
 pub packed-spec : {M : Type 1} → statement M
 packed-spec = tie.close (tie.spec mul-result add-result mul-result-2 add-result-2 returns)

@@ -1,6 +1,6 @@
-use borrow.Author.Needs.{needs}
 use Rattle.steps.proofs.Marks as laws
-use Prim.Native.Nat.{_-_, _≤_}
+use borrow.Author.Needs.{needs}
+use Prim.Native.Nat.{_-_, _<_}
 use lib.ListN.{length}
 use Rattle.evaluator.specs.Pending.{Done}
 use Rattle.evaluator.proofs.Laws as words
@@ -9,56 +9,53 @@ use Rattle.steps.proofs.mark.Statement.{statement}
 use Rattle.steps.proofs.mark.Tie as tie
 use Rattle.steps.proofs.mark.Reads as reads
 use Rattle.steps.proofs.mark.Lts as lts
-use Rattle.evaluator.proofs.put_word.Reads as put-word-reads
-use Rattle.evaluator.proofs.word_at.Reads as word-at-reads
-use Rattle.steps.proofs.agrees.Reads as agrees-reads
-use Rattle.steps.proofs.with_mark.Reads as with-mark-reads
+use Rattle.steps.proofs.mark_step.Reads as mark-step-reads
 
 abbrev Inv-loop : tie.InvT-loop
-Inv-loop marks₀ words states p v k₀ marks k = (k ≤ length marks) × Done (markWord words states p v) k marks₀ marks
+Inv-loop marks₀ words states p v home k₀ marks k = (k < length marks) × Done (markWord words states p v) k marks₀ marks
 
 abbrev μ-loop : tie.MeasureT-loop
-μ-loop marks₀ words states p v k₀ marks k = length marks - k
+μ-loop marks₀ words states p v home k₀ marks k = length marks - k
 
--- src/lib.rt:53:5
+-- src/lib.rt:59:5
 loop-holds : tie.Need-loop-holds Inv-loop μ-loop
 loop-holds c = search (needs, words.done-none)
 
--- src/lib.rt:54:13
-agrees-requires : tie.Need-agrees-requires Inv-loop μ-loop
-agrees-requires c κs = search needs
+-- src/lib.rt:59:11
+add-loop : tie.Need-add-loop Inv-loop μ-loop
+add-loop c = search needs
 
--- src/lib.rt:55:13
-word-at-requires : tie.Need-word-at-requires Inv-loop μ-loop
-word-at-requires c κs = search needs
+-- src/lib.rt:60:41
+add-mark-step : tie.Need-add-mark-step Inv-loop μ-loop
+add-mark-step c = search needs
 
--- src/lib.rt:56:39
-with-mark-requires : tie.Need-with-mark-requires Inv-loop μ-loop
-with-mark-requires c κs = search needs
+-- src/lib.rt:60:9
+mark-step-requires : tie.Need-mark-step-requires Inv-loop μ-loop
+mark-step-requires c κs = search needs
 
--- src/lib.rt:56:9
-put-word-requires : tie.Need-put-word-requires Inv-loop μ-loop
-put-word-requires c κs = search needs
-
--- src/lib.rt:57:9
+-- src/lib.rt:61:9
 add-k : tie.Need-add-k Inv-loop μ-loop
 add-k c = search needs
 
--- src/lib.rt:53:5
+-- src/lib.rt:59:5
 loop-less : tie.Need-loop-less Inv-loop μ-loop
 loop-less c = search needs
 
--- src/lib.rt:53:5
+-- src/lib.rt:59:5
 loop-again : tie.Need-loop-again Inv-loop μ-loop
-loop-again c = search (needs, laws.mark-next)
+loop-again c = search (needs, laws.mark-on)
 
--- src/lib.rt:48:1
+-- src/lib.rt:63:5
+mark-step-requires-2 : tie.Need-mark-step-requires-2 Inv-loop μ-loop
+mark-step-requires-2 c κs = search needs
+
+-- src/lib.rt:53:1
 same-length : tie.Need-same-length Inv-loop μ-loop
-same-length c = search (needs, words.done-all)
+same-length c = search (needs, laws.mark-last)
 
--- src/lib.rt:48:1
+-- src/lib.rt:53:1
 returns : tie.Need-returns Inv-loop μ-loop
-returns c = search (needs, words.done-all)
+returns c = search (needs, laws.mark-last)
 
 pub mark-spec : {M : Type 1} → statement M
 mark-spec =
@@ -67,12 +64,12 @@ mark-spec =
     Inv-loop
     μ-loop
     loop-holds
-    agrees-requires
-    word-at-requires
-    with-mark-requires
-    put-word-requires
+    add-loop
+    add-mark-step
+    mark-step-requires
     add-k
     loop-less
     loop-again
+    mark-step-requires-2
     same-length
     returns)

@@ -1,0 +1,29 @@
+/* The decks and claims that are measured. */
+#ifndef INPUTS_H
+#define INPUTS_H
+
+#include <stddef.h>
+#include <stdint.h>
+
+enum { TEXT_MOST = 64800 };
+
+struct text {
+    size_t length;
+    uint8_t byte[TEXT_MOST];
+};
+
+/* Each makes a deck of cards. */
+void worked_deck(struct text *cards);
+void limits_deck(struct text *cards);
+void conjuncts_deck(struct text *cards);
+void chain_deck(struct text *cards, unsigned variables);
+
+/* Comment cards behind a deck, up to exactly so many bytes. */
+void fill_with_comments(struct text *cards, size_t bytes);
+
+/* The claim of the paper on its first piece, and a claim of so many states on
+   the deck at all limits, half of them in the loop; as frames. */
+void worked_claim(struct text *claim);
+void limits_claim(struct text *claim, unsigned states);
+
+#endif
