@@ -16,7 +16,7 @@ use Rattle.grammar.specs.Readers.{Words}
 use Rattle.grammar.specs.declared.Word.{Word}
 use Rattle.cardlines.specs.declared.Held.{Held}
 use Rattle.cardlines.specs.declared.StatementRead.{StatementRead}
-use Rattle.cardlines.specs.Held.{dueNumber, heldOf, Holds, Came, refusedAs}
+use Rattle.cardlines.specs.Held.{dueNumber, heldOf, Holds, Came, refusedAs, InitWord}
 use Rattle.cardlines.proofs.Laws.{not-true, not-false, came-refused, words-none, words-some, on-none, on-some}
 
 either-is : (n : ℕ) (cs : List ℕ) (t : Typed) → equationOrProp n cs t ≡ onWord (86 ∷ []) cs (λ rs. equationStatement n rs t) (onWord (80 ∷ 82 ∷ 79 ∷ 80 ∷ []) cs (λ rs. propStatement n rs t) (Refused (NotDue n)))
@@ -55,6 +55,14 @@ module _ (chars : List ℕ) (end n : ℕ) (h : Held) (v : Word) (Vs : Words char
 
 -- ---- by what is due
 
+module _ (chars : List ℕ) (end due : ℕ) where
+  pub init-passed : due ≡ 3 → InitWord chars end due (record { found = false; next = 0 })
+  init-passed e = record { within = omega arith; told = λ n. absurd (n e); passed = λ _. refl }
+
+  pub init-looked : (w : Word) → (due ≡ 3 → ⊥) → Words chars 0 end (73 ∷ 78 ∷ 73 ∷ 84 ∷ []) w → InitWord chars end due w
+  unfolding bytes
+  init-looked w n W = record { within = W .within; told = λ _. W; passed = λ e. absurd (n e) }
+
 module _ (n : ℕ) (cs : List ℕ) (t : Typed) where
   due-equation : dueStatement DueEquation n cs t ≡ equationOrProp n cs t
   unfolding dueStatement
@@ -92,17 +100,6 @@ module _ (chars : List ℕ) (end n : ℕ) (h : Held) (s : Sofar) (inits lefts en
   Either r lefts″ ends″ nodes″ out =
       (s : Sofar) (inits : List ℕ) → Holds s h inits lefts ends nodes′ property → Came (equationOrProp n (ahead chars 0 end) (s .typed)) r inits lefts″ ends″ nodes″ out
 
-  pub read-equation : (r : StatementRead) (lefts″ ends″ nodes″ out : List ℕ) → h .due ≡ 3 → Either r lefts″ ends″ nodes″ out → Came (dueStatement (s .due) n (ahead chars 0 end) (s .typed)) r inits lefts″ ends″ nodes″ out
-  read-equation r lefts″ ends″ nodes″ out d c = go (s .due) (sym number-as ∙ d)
-    where
-      go : (x : Due) → dueNumber x ≡ 3 → Came (dueStatement x n (ahead chars 0 end) (s .typed)) r inits lefts″ ends″ nodes″ out
-      go DueVars e = absurd (omega (arith, e))
-      go DueInit e = absurd (omega (arith, e))
-      go DueAny e = absurd (omega (arith, e))
-      go DueEquation e = subst (λ (o : Outcome Sofar). Came o r inits lefts″ ends″ nodes″ out) (sym (due-equation n (ahead chars 0 end) (s .typed))) (c s inits H)
-      go DueEnd e = absurd (omega (arith, e))
-      go DueNone e = absurd (omega (arith, e))
-
   pub read-none : (r : StatementRead) → h .due ≡ 5 → r ≡ refusedAs (NotDue n) → Came (dueStatement (s .due) n (ahead chars 0 end) (s .typed)) r inits lefts ends nodes′ property
   read-none r d q = go (s .due) (sym number-as ∙ d)
     where
@@ -114,7 +111,12 @@ module _ (chars : List ℕ) (end n : ℕ) (h : Held) (s : Sofar) (inits lefts en
       go DueEnd e = absurd (omega (arith, e))
       go DueNone e = came-refused (dueStatement DueNone n (ahead chars 0 end) (s .typed)) (NotDue n) r inits lefts ends nodes′ property (due-none n (ahead chars 0 end) (s .typed)) q
 
-  module _ (w : Word) (W : Words chars 0 end (73 ∷ 78 ∷ 73 ∷ 84 ∷ []) w) (d0 : h .due ≡ 0 → ⊥) (d3 : h .due ≡ 3 → ⊥) (d4 : h .due ≡ 4 → ⊥) (d5 : h .due ≡ 5 → ⊥) where
+  module _ (w : Word) (I : InitWord chars end (h .due) w) (d0 : h .due ≡ 0 → ⊥) (d4 : h .due ≡ 4 → ⊥) (d5 : h .due ≡ 5 → ⊥) where
+    -- Where `INIT` may stand it is looked for.
+    looked : (k : ℕ) → h .due ≡ k → (k ≡ 3 → ⊥) → Words chars 0 end (73 ∷ 78 ∷ 73 ∷ 84 ∷ []) w
+    unfolding bytes
+    looked k e n = I .told (λ q. n (sym e ∙ q))
+
     pub read-init : (r : StatementRead) (out : List ℕ) → w .found ≡ true
         → ((s : Sofar) (lefts ends nodes′ property : List ℕ) → Holds s h inits lefts ends nodes′ property → Came (initStatement n (ahead chars (w .next) end) (s .typed)) r out lefts ends nodes′ property)
         → Came (dueStatement (s .due) n (ahead chars 0 end) (s .typed)) r out lefts ends nodes′ property
@@ -122,9 +124,9 @@ module _ (chars : List ℕ) (end n : ℕ) (h : Held) (s : Sofar) (inits lefts en
       where
         go : (x : Due) → h .due ≡ dueNumber x → Came (dueStatement x n (ahead chars 0 end) (s .typed)) r out lefts ends nodes′ property
         go DueVars e = absurd (d0 e)
-        go DueInit e = subst (λ (o : Outcome Sofar). Came o r out lefts ends nodes′ property) (sym (due-init n (ahead chars 0 end) (s .typed) ∙ on-some (73 ∷ 78 ∷ 73 ∷ 84 ∷ []) (ahead chars 0 end) (λ rs. initStatement n rs (s .typed)) (Refused (NotDue n)) (ahead chars (w .next) end) (words-some chars 0 end (73 ∷ 78 ∷ 73 ∷ 84 ∷ []) w W f))) (c s lefts ends nodes′ property H)
-        go DueAny e = subst (λ (o : Outcome Sofar). Came o r out lefts ends nodes′ property) (sym (due-any n (ahead chars 0 end) (s .typed) ∙ on-some (73 ∷ 78 ∷ 73 ∷ 84 ∷ []) (ahead chars 0 end) (λ rs. initStatement n rs (s .typed)) (equationOrProp n (ahead chars 0 end) (s .typed)) (ahead chars (w .next) end) (words-some chars 0 end (73 ∷ 78 ∷ 73 ∷ 84 ∷ []) w W f))) (c s lefts ends nodes′ property H)
-        go DueEquation e = absurd (d3 e)
+        go DueInit e = subst (λ (o : Outcome Sofar). Came o r out lefts ends nodes′ property) (sym (due-init n (ahead chars 0 end) (s .typed) ∙ on-some (73 ∷ 78 ∷ 73 ∷ 84 ∷ []) (ahead chars 0 end) (λ rs. initStatement n rs (s .typed)) (Refused (NotDue n)) (ahead chars (w .next) end) (words-some chars 0 end (73 ∷ 78 ∷ 73 ∷ 84 ∷ []) w (looked 1 e (λ q. omega (arith, q))) f))) (c s lefts ends nodes′ property H)
+        go DueAny e = subst (λ (o : Outcome Sofar). Came o r out lefts ends nodes′ property) (sym (due-any n (ahead chars 0 end) (s .typed) ∙ on-some (73 ∷ 78 ∷ 73 ∷ 84 ∷ []) (ahead chars 0 end) (λ rs. initStatement n rs (s .typed)) (equationOrProp n (ahead chars 0 end) (s .typed)) (ahead chars (w .next) end) (words-some chars 0 end (73 ∷ 78 ∷ 73 ∷ 84 ∷ []) w (looked 2 e (λ q. omega (arith, q))) f))) (c s lefts ends nodes′ property H)
+        go DueEquation e = let z : true ≡ false = sym f ∙ I .passed e in let i : _≡_ {A = ℕ} 0 1 = cc in absurd (omega arith)
         go DueEnd e = absurd (d4 e)
         go DueNone e = absurd (d5 e)
 
@@ -133,7 +135,7 @@ module _ (chars : List ℕ) (end n : ℕ) (h : Held) (s : Sofar) (inits lefts en
       where
         go : (x : Due) → dueNumber x ≡ 1 → Came (dueStatement x n (ahead chars 0 end) (s .typed)) r inits lefts ends nodes′ property
         go DueVars e = absurd (omega (arith, e))
-        go DueInit e = came-refused (dueStatement DueInit n (ahead chars 0 end) (s .typed)) (NotDue n) r inits lefts ends nodes′ property (due-init n (ahead chars 0 end) (s .typed) ∙ on-none (73 ∷ 78 ∷ 73 ∷ 84 ∷ []) (ahead chars 0 end) (λ rs. initStatement n rs (s .typed)) (Refused (NotDue n)) (words-none chars 0 end (73 ∷ 78 ∷ 73 ∷ 84 ∷ []) w W f)) q
+        go DueInit e = came-refused (dueStatement DueInit n (ahead chars 0 end) (s .typed)) (NotDue n) r inits lefts ends nodes′ property (due-init n (ahead chars 0 end) (s .typed) ∙ on-none (73 ∷ 78 ∷ 73 ∷ 84 ∷ []) (ahead chars 0 end) (λ rs. initStatement n rs (s .typed)) (Refused (NotDue n)) (words-none chars 0 end (73 ∷ 78 ∷ 73 ∷ 84 ∷ []) w (looked 1 d (λ q. omega (arith, q))) f)) q
         go DueAny e = absurd (omega (arith, e))
         go DueEquation e = absurd (omega (arith, e))
         go DueEnd e = absurd (omega (arith, e))
@@ -145,7 +147,7 @@ module _ (chars : List ℕ) (end n : ℕ) (h : Held) (s : Sofar) (inits lefts en
         go : (x : Due) → h .due ≡ dueNumber x → Came (dueStatement x n (ahead chars 0 end) (s .typed)) r inits lefts″ ends″ nodes″ out
         go DueVars e = absurd (d0 e)
         go DueInit e = absurd (d1 e)
-        go DueAny e = subst (λ (o : Outcome Sofar). Came o r inits lefts″ ends″ nodes″ out) (sym (due-any n (ahead chars 0 end) (s .typed) ∙ on-none (73 ∷ 78 ∷ 73 ∷ 84 ∷ []) (ahead chars 0 end) (λ rs. initStatement n rs (s .typed)) (equationOrProp n (ahead chars 0 end) (s .typed)) (words-none chars 0 end (73 ∷ 78 ∷ 73 ∷ 84 ∷ []) w W f))) (c s inits H)
-        go DueEquation e = absurd (d3 e)
+        go DueAny e = subst (λ (o : Outcome Sofar). Came o r inits lefts″ ends″ nodes″ out) (sym (due-any n (ahead chars 0 end) (s .typed) ∙ on-none (73 ∷ 78 ∷ 73 ∷ 84 ∷ []) (ahead chars 0 end) (λ rs. initStatement n rs (s .typed)) (equationOrProp n (ahead chars 0 end) (s .typed)) (words-none chars 0 end (73 ∷ 78 ∷ 73 ∷ 84 ∷ []) w (looked 2 e (λ q. omega (arith, q))) f))) (c s inits H)
+        go DueEquation e = subst (λ (o : Outcome Sofar). Came o r inits lefts″ ends″ nodes″ out) (sym (due-equation n (ahead chars 0 end) (s .typed))) (c s inits H)
         go DueEnd e = absurd (d4 e)
         go DueNone e = absurd (d5 e)

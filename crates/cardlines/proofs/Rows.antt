@@ -2,17 +2,17 @@
 use mathlib.Core.Path.{_≡_, refl, sym, ap, ap₂, _∙_, subst}
 use mathlib.Core.Logic.{by-cases}
 use mathlib.Core.Bool.{Bool, true, false, not, _&&_}
-use mathlib.Core.List.{List, [], _∷_, _++_}
+use mathlib.Core.List.{List, [], _∷_, _++_, append-nil}
 use Prim.Native.Nat.{ℕ, zero, suc, _+_, _-_, _<_, _≤_}
 use native.Mathlib.Omega.{arith}
 use native.Mathlib.Numerals.{add-one}
 use native.Mathlib.Decide.{decLt}
 use lib.Dec.{ltb, leb, eqb}
-use lib.ListN.{length, take, drop, getD, set, replicate, length-append, length-take, length-set, drop-of-length-le, List·getD-eq-default}
+use lib.ListN.{length, take, drop, getD, set, replicate, length-append, length-replicate, length-take, length-set, drop-of-length-le, List·getD-eq-default}
 use lib.Seq.{take-suc, take-suc-set, take-all, drop-cons, getD-take, length-take-le}
 use borrow.Author.Tests.{lt-ltb, le-ltb, le-leb, lt-leb, eq-eqb, ne-eqb}
-use Rattle.lists.specs.Lists.{stands, firsts, padded}
-use Rattle.lists.proofs.Laws.{getD-padded, length-padded}
+use Rattle.lists.specs.Lists.{stands, firsts, padded, splice, part}
+use Rattle.lists.proofs.Laws.{take-filled, splice-splice}
 use Rattle.logic.specs.Decks.{totalNodes}
 use Rattle.terms.specs.Nodes.{variable?}
 use Rattle.decks.specs.declared.Answer.{Answer}
@@ -79,24 +79,20 @@ refusal-deep n stop e = simp (ne-eqb stop 1 e)
 
 -- ---- the property stored
 
-pub node-behind : (nodes : List ℕ) (count i : ℕ) → count ≤ length nodes → count ≤ i → 0 ≡ getD (take count nodes) i 0
-node-behind nodes count i h k = sym (List·getD-eq-default (take count nodes) 0 {n = i} (omega (arith, length-take-le count nodes h)))
-
-pub node-there : (nodes : List ℕ) (count i x : ℕ) → i < count → x ≡ getD nodes i 0 → x ≡ getD (take count nodes) i 0
-node-there nodes count i x h e = e ∙ sym (getD-take count nodes i 0 h)
-
-module _ (nodes : List ℕ) (count : ℕ) (h : count ≤ length nodes) (m : count ≤ 128) where
-  long : length (padded 128 (take count nodes)) ≡ 128
-  long = length-padded 128 (take count nodes) (omega (arith, length-take-le count nodes h))
-
-  pub property-next : (property out : List ℕ) (i x : ℕ) → length property ≡ 128 → i < 128 → take i property ≡ take i (padded 128 (take count nodes)) → x ≡ getD (take count nodes) i 0 → out ≡ set property i x → take (i + 1) out ≡ take (i + 1) (padded 128 (take count nodes))
-  property-next property out i x l k e p q =
-      let f : i + 1 ≡ suc i = omega arith in
-      ap₂ (λ (j : ℕ) (y : List ℕ). take j y) f q
-      ∙ take-suc-set property i x (omega (arith, l))
-      ∙ ap₂ (λ (y : List ℕ) (z : ℕ). y ++ (z ∷ [])) e (p ∙ sym (getD-padded 128 (take count nodes) i))
-      ∙ sym (take-suc (padded 128 (take count nodes)) i 0 (omega (arith, long)))
-      ∙ ap (λ (j : ℕ). take j (padded 128 (take count nodes))) (sym f)
-
-  pub property-all : (property : List ℕ) (i : ℕ) → length property ≡ 128 → 128 ≤ i → take i property ≡ take i (padded 128 (take count nodes)) → property ≡ padded 128 (take count nodes)
-  property-all property i l k e = sym (take-all i property (omega (arith, l))) ∙ e ∙ take-all i (padded 128 (take count nodes)) (omega (arith, long))
+pub property-put : (nodes property some all : List ℕ) (count : ℕ) → count ≤ length nodes → count ≤ 128 → length property ≡ 128 → some ≡ splice 0 (part 0 count nodes) property → all ≡ splice count (part 0 (128 - count) (replicate 128 0)) some → all ≡ padded 128 (take count nodes)
+property-put nodes property some all count h m l e f =
+    let vs : List ℕ = take count nodes in
+    let ws : List ℕ = replicate (128 - length vs) 0 in
+    let long : length vs ≡ count = length-take-le count nodes h in
+    let start : count ≡ 0 + length vs = omega (arith, long) in
+    let zero : count - 0 ≡ count = omega arith in
+    let left : 128 - count - 0 - 0 ≡ 128 - length vs = omega arith in
+    let zeros : take (128 - count - 0) (replicate 128 0) ≡ ws =
+    take-filled (128 - count - 0) 128 [] 0 (omega arith) ∙ ap₂ (λ (x : List ℕ) (k : ℕ). x ++ replicate k 0) (take-all (128 - count - 0) [] (omega arith)) left in
+    let whole : length (vs ++ ws) ≡ 128 = omega (arith, length-append vs ws, length-replicate {A = ℕ} (128 - length vs) 0) in
+    f
+    ∙ ap₂ (λ (k : ℕ) (x : List ℕ). splice k x some) start zeros
+    ∙ ap (λ (x : List ℕ). splice (0 + length vs) ws x) (e ∙ ap (λ (k : ℕ). splice 0 (take k nodes) property) zero)
+    ∙ splice-splice 0 vs ws property (omega arith)
+    ∙ ap (λ (x : List ℕ). (vs ++ ws) ++ x) (drop-of-length-le property {i = 0 + length (vs ++ ws)} (omega arith))
+    ∙ append-nil (vs ++ ws)

@@ -6,6 +6,7 @@ use Prim.Native.Nat.{ℕ, _≤_}
 use lib.Dec.{ltb}
 use lib.ListN.{length, take}
 use Rattle.lists.specs.Lists.{padded, firsts}
+use Rattle.lists.specs.Texts.{bytes}
 use Rattle.sets.specs.Sets.{inside}
 use Rattle.logic.specs.Expressions.{Expr, nodes, written, temporal, code}
 use Rattle.logic.specs.Decks.{Equation, base, totalNodes}
@@ -16,6 +17,8 @@ use Rattle.decks.specs.Answers.{Outcome, Got, Refused}
 use Rattle.decks.specs.Stored.{HoldsEquations}
 use Rattle.cards.specs.Typed.{Typed, firstVars}
 use Rattle.cards.specs.Read.{Due, DueVars, DueInit, DueAny, DueEquation, DueEnd, DueNone, Sofar, withEquation}
+use Rattle.grammar.specs.declared.Word.{Word}
+use Rattle.grammar.specs.Readers.{Words}
 use Rattle.cardlines.specs.declared.Held.{Held}
 use Rattle.cardlines.specs.declared.StatementRead.{StatementRead}
 use Rattle.cardlines.specs.declared.ExprRead.{ExprRead}
@@ -105,3 +108,9 @@ ExprCame count (Refused a) r scratch = (r .fine ≡ false) × (r .answer ≡ a)
 abbrev pub WithCame : ℕ → Typed → ℕ → ExprRead → List ℕ → StatementRead → List ℕ → List ℕ → List ℕ → List ℕ → List ℕ → Type 0
 WithCame n t left e scratch r inits lefts ends nodes property =
     (x : Expr) → ExprCame (t .count) (Got x) e scratch → Came (withEquation n t (record { left = left; right = x })) r inits lefts ends nodes property
+
+-- Whether `INIT` begins the statement, and where it goes on; where an equation or the property is due it does not.
+pub record InitWord (chars : List ℕ) (end due : ℕ) (w : Word) : Type 0 where
+  pub within : w .next ≤ end
+  pub told : (due ≡ dueNumber DueEquation → ⊥) → Words chars 0 end (bytes "INIT") w
+  pub passed : due ≡ dueNumber DueEquation → w .found ≡ false

@@ -10,25 +10,25 @@ ghost use Rattle.decks.specs.Answers.{Refused};
 ghost use Rattle.cards.specs.Read.{Sofar, begun, wholeExpr, dueStatement, equationOrProp, equationStatement, propStatement, initStatement, withEquation};
 ghost use Rattle.grammar.specs.Ahead.{ahead};
 ghost use Rattle.phrases.specs.Phrases.{refusalOf};
-ghost use Rattle.cardlines.specs.Held.{heldOf, Small, Lengths, Holds, Came, refusedAs, none?, outside?, withinAll, ExprCame, WithCame};
+ghost use Rattle.cardlines.specs.Held.{heldOf, Small, Lengths, Holds, Came, refusedAs, none?, outside?, withinAll, ExprCame, WithCame, InitWord};
 
 // Which statements are due.
-pub const DUE_VARS: u8 = 0;
+pub const DUE_VARS: usize = 0;
 
-pub const DUE_INIT: u8 = 1;
+pub const DUE_INIT: usize = 1;
 
-pub const DUE_ANY: u8 = 2;
+pub const DUE_ANY: usize = 2;
 
-pub const DUE_EQUATION: u8 = 3;
+pub const DUE_EQUATION: usize = 3;
 
-pub const DUE_END: u8 = 4;
+pub const DUE_END: usize = 4;
 
-pub const DUE_NONE: u8 = 5;
+pub const DUE_NONE: usize = 5;
 
 // What the statements so far came to, but for what stands in the arrays: what is due, the number of variables, the initial states typed and kept,
 // the equations, their nodes, and the property's nodes.
 pub struct Held {
-    pub due: u8,
+    pub due: usize,
     pub count: usize,
     pub typed: usize,
     pub initials: usize,
@@ -249,7 +249,7 @@ fn init_statement(
 }
 
 // The answer that the number of a stop stands for.
-fn refusal(n: u64, stop: u8) -> decks::Answer
+fn refusal(n: u64, stop: usize) -> decks::Answer
     ensures { λ r. ⌜ r ≡ refusalOf n stop ⌝ }
 {
     if stop == phrases::WRONG {
@@ -373,34 +373,14 @@ fn equation_statement(
     with_equation(n, h, v.value, e, scratch, lefts, ends, nodes)
 }
 
-// Node i of those read, or 0 behind them.
-fn node_of(nodes: &[u16], count: usize, i: usize) -> u16
-    requires { ⌜ count ≤ length (now nodes) ⌝ }
-    ensures { λ r. ⌜ r ≡ getD (take count (now (nodes .entry))) i 0 ⌝ }
-{
-    if count <= i {
-        return 0;
-    }
-    nodes[i]
-}
-
-fn put_node(row: &mut [u16], i: usize, x: u16)
-    requires { ⌜ i < length (now row) ⌝ }
-    ensures { λ _. ⌜ now (row .exit) ≡ set (now (row .entry)) i x ⌝ }
-{
-    row[i] = x;
-}
-
 // The property's nodes, and zeros behind them.
 fn put_property(nodes: &[u16], count: usize, property: &mut [u16])
     requires { ⌜ (count ≤ length (now nodes)) × (count ≤ base .propertyNodes) × (length (now property) ≡ base .propertyNodes) ⌝ }
     ensures { λ _. ⌜ now (property .exit) ≡ padded (base .propertyNodes) (take count (now (nodes .entry))) ⌝ }
 {
-    let mut i = 0;
-    while i < decks::PROPERTY_NODES {
-        put_node(property, i, node_of(nodes, count, i));
-        i += 1;
-    }
+    let zeros = [0u16; decks::PROPERTY_NODES];
+    sorting::copy(nodes, 0, count, property, 0);
+    sorting::copy(&zeros, 0, decks::PROPERTY_NODES - count, property, count);
 }
 
 // Behind `PROP`: the property; 9, then 14.
@@ -469,6 +449,20 @@ fn equation_or_prop(
     prop_statement(chars, w.next, end, n, h, scratch, property)
 }
 
+// `INIT`, which is not looked for where an equation or the property is due.
+fn init_word(chars: &[u8], end: usize, due: usize) -> grammar::Word
+    requires { ⌜ end ≤ length (now chars) ⌝ }
+    ensures { λ r. ⌜ InitWord (now (chars .entry)) end due r ⌝ }
+{
+    if due == DUE_EQUATION {
+        return grammar::Word {
+            found: false,
+            next: 0,
+        };
+    }
+    grammar::read_word(chars, 0, end, b"INIT")
+}
+
 // The statement of card n, where the one that is due may stand.
 pub fn statement_read(
     chars: &[u8],
@@ -488,16 +482,13 @@ pub fn statement_read(
     if h.due == DUE_VARS {
         return vars_statement(chars, end, n, h);
     }
-    if h.due == DUE_EQUATION {
-        return equation_or_prop(chars, end, n, h, scratch, lefts, ends, nodes, property);
-    }
     if h.due == DUE_END {
         return end_statement(chars, end, n, h);
     }
     if h.due == DUE_NONE {
         return not_due(n);
     }
-    let w = grammar::read_word(chars, 0, end, b"INIT");
+    let w = init_word(chars, end, h.due);
     if w.found {
         return init_statement(chars, w.next, end, n, h, inits);
     }

@@ -19,12 +19,12 @@ use Rattle.decks.specs.Readings.{leftSet, complete}
 use Rattle.decks.specs.Stored.{leftsOf, HoldsEquations, deckRead}
 use Rattle.decks.proofs.Complete.{lacking, complete-none, complete-some}
 use Rattle.cards.specs.Typed.{firstVars, risingFrom, deckOf}
-use Rattle.cards.specs.Read.{Due, DueNone, Sofar}
+use Rattle.cards.specs.Read.{Due, Sofar}
 use Rattle.cards.proofs.TypedLaws.{ofVariable, allowed-lefts}
-use Rattle.sorting.specs.Sorting.{Sortable, Zeros, LeftsAre}
+use Rattle.sorting.specs.Sorting.{Sortable, LeftsAre}
 use Rattle.cardlines.specs.declared.Held.{Held}
 use Rattle.cardlines.specs.Held.{PropertyHeld}
-use Rattle.cardreading.specs.Finished.{Ready}
+use Rattle.cardreading.specs.Finished.{Ready, Sorted}
 
 -- ---- the set of the first variables
 
@@ -50,80 +50,77 @@ each-rising P v (suc k) qs h =
     (each-keep (ofVariable v) P qs (each-map P (λ (q : Equation). ofVariable v q ≡ true → P q) qs (λ q p e. p) h))
     (each-rising P (suc v) k qs h)
 
-pub zeros : Zeros (replicate 256 0) (replicate 256 0) (replicate 2048 0)
-zeros = record { lefts-zero = refl; ends-zero = refl; nodes-zero = refl }
+module _ (s : Sofar) (held : Held) (inits lefts ends nodes′ property : List ℕ) (r : Ready s held inits lefts ends nodes′ property) where
+  lefts-within : Each (λ (q : Equation). q .left < s .typed .count) (s .typed .equations)
+  lefts-within = allowed-lefts base (s .typed) (r .stated .begins .equations-allowed)
+
+  sortable : Sortable (s .typed .equations) (held .count) lefts ends nodes′ (held .equations)
+  sortable =
+      subst (λ (x : Held). Sortable (s .typed .equations) (x .count) lefts ends nodes′ (x .equations)) (sym (r .holds .held-is))
+      (record { holds = r .holds .equations-are; lefts-below = lefts-within; few = r .stated .begins .equations-most; small = r .stated .begins .equations-nodes })
+
+  -- Whichever equations the arrays held, these hold them by rising variable.
+  pub sorted : (tl te tn : List ℕ) → ((qs : List Equation) → Sortable qs (held .count) lefts ends nodes′ (held .equations) → HoldsEquations (risingFrom 0 (held .count) qs) tl te tn (held .equations)) → Sorted s held inits tl te tn property
+  unfolding deckOf
+  sorted tl te tn f =
+      record {
+        held-is = r .holds .held-is;
+        inits-are = r .holds .inits-are;
+        equations-are = subst (λ (n : ℕ). HoldsEquations (risingFrom 0 n (s .typed .equations)) tl te tn (held .equations)) (ap (λ (x : Held). x .count) (r .holds .held-is)) (f (s .typed .equations) sortable);
+        property-is = subst (λ (u : Due). PropertyHeld u (s .typed .property) (held .size) property) (r .ended) (r .holds .property-is);
+        stated = r .stated;
+      }
 
 module _ (held : Held) (inits lefts ends nodes′ property : List ℕ) where
-  -- What is held, and the arrays, stand for this, with `END` read.
+  pub can-sort : ((s : Sofar) × Ready s held inits lefts ends nodes′ property) → (qs : List Equation) × Sortable qs (held .count) lefts ends nodes′ (held .equations)
+  can-sort (s, r) = (s .typed .equations, sortable s held inits lefts ends nodes′ property r)
+
+  -- ---- 15, then the deck
+
+  -- What is held, and the arrays, stand for this, sorted.
   abbrev pub Typing : Sofar → Type 0
-  Typing s = Ready s held inits lefts ends nodes′ property
+  Typing s = Sorted s held inits lefts ends nodes′ property
 
   module _ (s : Sofar) (r : Typing s) where
     count-held : held .count ≡ s .typed .count
-    count-held = ap (λ (x : Held). x .count) (r .holds .held-is)
+    count-held = ap (λ (x : Held). x .count) (r .held-is)
 
-    lefts-within : Each (λ (q : Equation). q .left < s .typed .count) (s .typed .equations)
-    lefts-within = allowed-lefts base (s .typed) (r .stated .begins .equations-allowed)
+    lefts-held : held .equations ≡ length (leftsOf (deckOf (s .typed) .equations))
+    lefts-held = r .equations-are .count-is ∙ sym (length-map (deckOf (s .typed) .equations) (λ (q : Equation). q .left))
 
-    sortable : Sortable (s .typed .equations) (held .count) lefts ends nodes′ (held .equations)
-    sortable =
-        subst (λ (x : Held). Sortable (s .typed .equations) (x .count) lefts ends nodes′ (x .equations)) (sym (r .holds .held-is))
-        (record { holds = r .holds .equations-are; lefts-below = lefts-within; few = r .stated .begins .equations-most; small = r .stated .begins .equations-nodes })
-
-  pub can-sort : ((s : Sofar) × Typing s) → (qs : List Equation) × Sortable qs (held .count) lefts ends nodes′ (held .equations)
-  can-sort (s, r) = (s .typed .equations, sortable s r)
+    deck-lefts : LeftsAre (deckOf (s .typed) .equations) lefts (held .equations)
+    unfolding deckOf
+    deck-lefts =
+        record {
+          first-are = rw (lefts-held, r .equations-are .lefts-are) (take-padded 256 (leftsOf (deckOf (s .typed) .equations)));
+          lefts-below =
+              each-rising (λ (q : Equation). q .left < 64) 0 (s .typed .count) (s .typed .equations)
+              (each-map (λ (q : Equation). q .left < s .typed .count) (λ (q : Equation). q .left < 64) (s .typed .equations) (λ q h. omega (arith, h, r .stated .begins .vars-most)) (allowed-lefts base (s .typed) (r .stated .begins .equations-allowed)));
+        }
 
   pub vars-few : ((s : Sofar) × Typing s) → held .count ≤ 64
   vars-few (s, r) = omega (arith, count-held s r, r .stated .begins .vars-most)
 
-  -- ---- the equations by rising variable
+  pub lefts-there : ((s : Sofar) × Typing s) → held .equations ≤ length lefts
+  lefts-there (s, r) =
+      let ls = leftsOf (deckOf (s .typed) .equations) in
+      omega (arith, lefts-held s r, ap (λ (l : List ℕ). length l) (r .equations-are .lefts-are), length-append ls (replicate (256 - length ls) 0))
 
-  module _ (tl te tn : List ℕ) where
-    -- Whichever equations the arrays hold, these hold them by rising variable.
-    abbrev pub Sorts : Type 0
-    Sorts = (qs : List Equation) → Sortable qs (held .count) lefts ends nodes′ (held .equations) → HoldsEquations (risingFrom 0 (held .count) qs) tl te tn (held .equations)
-
-    module _ (sorts : Sorts) (s : Sofar) (r : Typing s) where
-      deck-held : HoldsEquations (deckOf (s .typed) .equations) tl te tn (held .equations)
+  module _ (vars covered m : ℕ) (vars-are : vars ≡ firstVars (held .count)) (covered-is : (qs : List Equation) → LeftsAre qs lefts (held .equations) → covered ≡ leftSet qs) (missing-is : m ≡ without vars covered) where
+    module _ (s : Sofar) (r : Typing s) where
+      deck-vars : vars ≡ deckOf (s .typed) .vars
       unfolding deckOf
-      deck-held = subst (λ (n : ℕ). HoldsEquations (risingFrom 0 n (s .typed .equations)) tl te tn (held .equations)) (count-held s r) (sorts (s .typed .equations) (sortable s r))
+      deck-vars = vars-are ∙ ap firstVars (count-held s r)
 
-      lefts-held : held .equations ≡ length (leftsOf (deckOf (s .typed) .equations))
-      lefts-held = deck-held .count-is ∙ sym (length-map (deckOf (s .typed) .equations) (λ (q : Equation). q .left))
+      lacking-is : m ≡ lacking (deckOf (s .typed))
+      lacking-is = missing-is ∙ ap₂ without deck-vars (covered-is (deckOf (s .typed) .equations) (deck-lefts s r))
 
-      deck-lefts : LeftsAre (deckOf (s .typed) .equations) tl (held .equations)
-      unfolding deckOf
-      deck-lefts =
-          record {
-            first-are = rw (lefts-held, deck-held .lefts-are) (take-padded 256 (leftsOf (deckOf (s .typed) .equations)));
-            lefts-below =
-                each-rising (λ (q : Equation). q .left < 64) 0 (s .typed .count) (s .typed .equations)
-                (each-map (λ (q : Equation). q .left < s .typed .count) (λ (q : Equation). q .left < 64) (s .typed .equations) (λ q h. omega (arith, h, r .stated .begins .vars-most)) (lefts-within s r));
-          }
+    pub lacks-one : (v : ℕ) (x : DeckRead) → (m ≡ 0 → ⊥) → v ≡ lowestOf m → x ≡ deckRead (Refused (NoEquation v)) → (s : Sofar) → Typing s → x ≡ deckRead (complete (deckOf (s .typed)))
+    lacks-one v x h l q s r = q ∙ rw (complete-some (deckOf (s .typed)) m (lacking-is s r) h, l) refl
 
-    pub lefts-there : ((s : Sofar) × Typing s) → Sorts → held .equations ≤ length tl
-    lefts-there (s, r) sorts =
-        let ls = leftsOf (deckOf (s .typed) .equations) in
-        omega (arith, lefts-held sorts s r, ap (λ (l : List ℕ). length l) (deck-held sorts s r .lefts-are), length-append ls (replicate (256 - length ls) 0))
-
-    -- ---- 15, then the deck
-
-    module _ (vars covered m : ℕ) (sorts : Sorts) (vars-are : vars ≡ firstVars (held .count)) (covered-is : (qs : List Equation) → LeftsAre qs tl (held .equations) → covered ≡ leftSet qs) (missing-is : m ≡ without vars covered) where
-      module _ (s : Sofar) (r : Typing s) where
-        deck-vars : vars ≡ deckOf (s .typed) .vars
-        unfolding deckOf
-        deck-vars = vars-are ∙ ap firstVars (count-held s r)
-
-        lacking-is : m ≡ lacking (deckOf (s .typed))
-        lacking-is = missing-is ∙ ap₂ without deck-vars (covered-is (deckOf (s .typed) .equations) (deck-lefts sorts s r))
-
-      pub lacks-one : (v : ℕ) (x : DeckRead) → (m ≡ 0 → ⊥) → v ≡ lowestOf m → x ≡ deckRead (Refused (NoEquation v)) → (s : Sofar) → Typing s → x ≡ deckRead (complete (deckOf (s .typed)))
-      lacks-one v x h l q s r = q ∙ rw (complete-some (deckOf (s .typed)) m (lacking-is s r) h, l) refl
-
-      pub lacks-none : m ≡ 0 → (s : Sofar) → Typing s
-          → record { answer = Fine; deck = record { vars = vars; inits = inits; initials = held .initials; lefts = tl; ends = te; equations = held .equations; nodes = tn; property = property; size = held .size } } ≡ deckRead (complete (deckOf (s .typed)))
-      unfolding deckOf
-      lacks-none h s r =
-          let q = deck-held sorts s r in
-          let p : PropertyHeld DueNone (s .typed .property) (held .size) property = subst (λ (u : Due). PropertyHeld u (s .typed .property) (held .size) property) (r .ended) (r .holds .property-is) in
-          rw (complete-none (deckOf (s .typed)) m (lacking-is s r) h, deck-vars s r, r .holds .inits-are, ap (λ (x : Held). x .initials) (r .holds .held-is), q .lefts-are, q .ends-are, q .count-is, q .nodes-are, p .1, p .0) refl
+    pub lacks-none : m ≡ 0 → (s : Sofar) → Typing s
+        → record { answer = Fine; deck = record { vars = vars; inits = inits; initials = held .initials; lefts = lefts; ends = ends; equations = held .equations; nodes = nodes′; property = property; size = held .size } } ≡ deckRead (complete (deckOf (s .typed)))
+    unfolding deckOf
+    lacks-none h s r =
+        let q = r .equations-are in
+        rw (complete-none (deckOf (s .typed)) m (lacking-is s r) h, deck-vars s r, r .inits-are, ap (λ (x : Held). x .initials) (r .held-is), q .lefts-are, q .ends-are, q .count-is, q .nodes-are, r .property-is .1, r .property-is .0) refl

@@ -8,26 +8,29 @@ use lib.ListN.{length, drop, replicate, length-replicate}
 use denote.Enum.Declared.{tagOf}
 use types.Run.{OneOf, miss}
 use borrow.Author.Tests.{lt-ltb, le-ltb, not-true, not-false}
+use Rattle.logic.specs.Decks.{Equation}
 use Rattle.decks.specs.declared.Answer.{Answer}
 use Rattle.decks.specs.declared.Answer.the-variants.{Fine, TooLong, NotDue}
 use Rattle.decks.specs.declared.DeckRead.{DeckRead}
 use Rattle.decks.specs.Answers.{Outcome, Got, Refused, afterwards}
 use Rattle.decks.specs.Readings.{walk, complete}
-use Rattle.decks.specs.Stored.{deckRead}
+use Rattle.decks.specs.Stored.{HoldsEquations, deckRead}
 use Rattle.decks.proofs.Answer.{the-type as answers}
 use Rattle.cards.specs.Card.{cardsOf, inForm}
 use Rattle.cards.specs.Statement.{statementsOf}
-use Rattle.cards.specs.Typed.{deckOf}
+use Rattle.cards.specs.Typed.{risingFrom, deckOf}
 use Rattle.cards.specs.Read.{Due, DueVars, DueInit, DueAny, DueEquation, DueEnd, DueNone, Sofar, begun, statementRead, cardsEnd, readCards}
 use Rattle.cards.proofs.StatementLaws.{walk-spelt}
 use Rattle.firstpass.specs.Passed.{passed}
 use Rattle.firstpass.proofs.Laws.{passed-fine, passed-refused}
 use Rattle.statements.specs.Hold.{Formed}
 use Rattle.statements.proofs.Laws.{formed-whole}
+use Rattle.sorting.specs.Sorting.{Sortable}
 use Rattle.cardlines.specs.declared.Held.{Held}
 use Rattle.cardlines.specs.declared.StatementRead.{StatementRead}
 use Rattle.cardlines.specs.Held.{dueNumber, Holds, Came}
-use Rattle.cardreading.specs.Finished.{Ready, Empty}
+use Rattle.cardreading.specs.Finished.{Ready, Sorted, Empty}
+use Rattle.cardreading.proofs.FinishLaws.{sorted}
 
 -- Arrays of zeros before the first statement.
 pub zeros-empty : Empty (replicate 64 0) (replicate 1320 0) (replicate 256 0) (replicate 256 0) (replicate 2048 0) (replicate 128 0)
@@ -95,9 +98,16 @@ module _ (text : List ℕ) (r : StatementRead) (inits lefts ends nodes property 
       let none : s .due ≡ DueNone = due-none (s .due) (ap (λ (x : Held). x .due) (sym (h .held-is)) ∙ d) in
       (s, e, record { holds = h; ended = none; stated = walk-spelt 1 (statementsOf (cardsOf text)) s e none .1 })
 
-  -- `END` was read: the deck is ready to be finished.
+  -- `END` was read: the equations are ready to be sorted.
   pub ready : AllCame → not (r .fine) ≡ false → r .held .due ≡ 5 → (s : Sofar) × Ready s (r .held) inits lefts ends nodes property
   ready c f d = let (s, e, h) = all-ready c f d in (s, h)
+
+  -- These arrays hold whichever equations those held, by rising variable.
+  abbrev pub Sorts : List ℕ → List ℕ → List ℕ → Type 0
+  Sorts tl te tn = (qs : List Equation) → Sortable qs (r .held .count) lefts ends nodes (r .held .equations) → HoldsEquations (risingFrom 0 (r .held .count) qs) tl te tn (r .held .equations)
+
+  pub ready-sorted : (tl te tn : List ℕ) → AllCame → not (r .fine) ≡ false → r .held .due ≡ 5 → Sorts tl te tn → (s : Sofar) × Sorted s (r .held) inits tl te tn property
+  ready-sorted tl te tn c f d o = let (s, e, h) = all-ready c f d in (s, sorted s (r .held) inits lefts ends nodes property h tl te tn o)
 
   module _ (x : DeckRead) where
     pub statement-refused : AllCame → not (r .fine) ≡ true → x ≡ deckRead (Refused (r .answer)) → x ≡ deckRead (afterwards (statementsRead text) cardsEnd)
@@ -110,10 +120,10 @@ module _ (text : List ℕ) (r : StatementRead) (inits lefts ends nodes property 
         ∙ ap deckRead (sym (end-missing s (s .due) refl (λ n. d (ap (λ (y : Held). y .due) (h .held-is) ∙ n))))
         ∙ ap (λ (o : Outcome Sofar). deckRead (afterwards o cardsEnd)) (sym e)
 
-    pub deck-finished : AllCame → not (r .fine) ≡ false → r .held .due ≡ 5 → ((s : Sofar) → Ready s (r .held) inits lefts ends nodes property → x ≡ deckRead (complete (deckOf (s .typed)))) → x ≡ deckRead (afterwards (statementsRead text) cardsEnd)
-    deck-finished c f d g =
+    pub deck-finished : (tl te tn : List ℕ) → AllCame → not (r .fine) ≡ false → r .held .due ≡ 5 → Sorts tl te tn → ((s : Sofar) → Sorted s (r .held) inits tl te tn property → x ≡ deckRead (complete (deckOf (s .typed)))) → x ≡ deckRead (afterwards (statementsRead text) cardsEnd)
+    deck-finished tl te tn c f d o g =
         let (s, e, h) = all-ready c f d in
-        g s h ∙ ap deckRead (sym (end-complete s (h .ended))) ∙ ap (λ (o : Outcome Sofar). deckRead (afterwards o cardsEnd)) (sym e)
+        g s (sorted s (r .held) inits lefts ends nodes property h tl te tn o) ∙ ap deckRead (sym (end-complete s (h .ended))) ∙ ap (λ (o : Outcome Sofar). deckRead (afterwards o cardsEnd)) (sym e)
 
 -- ---- both passes
 

@@ -146,6 +146,9 @@ module _ (text : List ℕ) (p : Place) (h : p .at < length text) (at : Placed te
   pub ends-within : p .end ≤ length text
   ends-within = at .within h
 
+  pub next-near : p .end + 1 ≤ length text + 1
+  next-near = omega (arith, ends-within)
+
   -- ---- on one card
 
   module _ (field : List ℕ) (e : field ≡ drop (fieldStart - 1) (take fieldEnd card)) where

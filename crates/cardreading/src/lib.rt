@@ -15,7 +15,7 @@ ghost use Rattle.cards.specs.Read.{Sofar, begun, statementRead, cardsEnd, readC
 ghost use Rattle.statements.specs.Hold.{Formed, Placed};
 ghost use Rattle.cardlines.specs.Held.{Small, Came};
 ghost use Rattle.cardreading.specs.Stepped.{Rows, Stepped};
-ghost use Rattle.cardreading.specs.Finished.{Ready, Empty};
+ghost use Rattle.cardreading.specs.Finished.{Sorted, Empty};
 
 // The set of the first variables.
 fn first_vars(count: usize) -> u64
@@ -152,33 +152,20 @@ fn went(held: cardlines::Held) -> cardlines::StatementRead
     }
 }
 
-// Behind `END`: the equations by rising variable, then 15, then the deck.
-fn finished<'a>(
+// Behind `END`, with the equations by rising variable: 15, then the deck.
+fn finished(
     held: cardlines::Held,
     inits: [u64; decks::INITIALS * decks::WORDS],
     property: [u16; decks::PROPERTY_NODES],
-    lefts: &'a [u16],
-    ends: &'a [u16],
-    nodes: &'a [u16],
+    lefts: [u16; decks::EQUATIONS],
+    ends: [u16; decks::EQUATIONS],
+    nodes: [u16; decks::EQUATION_NODES],
 ) -> decks::DeckRead
-    requires { ⌜ ((s : Sofar) × Ready s held inits (now lefts) (now ends) (now nodes) property) ⌝ }
-    ensures { λ r. ⌜ ((s : Sofar) → Ready s held inits (now (lefts .entry)) (now (ends .entry)) (now (nodes .entry)) property → r ≡ deckRead (complete (deckOf (s .typed)))) ⌝ }
+    requires { ⌜ ((s : Sofar) × Sorted s held inits lefts ends nodes property) ⌝ }
+    ensures { λ r. ⌜ ((s : Sofar) → Sorted s held inits lefts ends nodes property → r ≡ deckRead (complete (deckOf (s .typed)))) ⌝ }
 {
-    let mut to_lefts = [0u16; decks::EQUATIONS];
-    let mut to_ends = [0u16; decks::EQUATIONS];
-    let mut to_nodes = [0u16; decks::EQUATION_NODES];
-    sorting::rising(
-        lefts,
-        ends,
-        nodes,
-        held.equations,
-        held.count,
-        &mut to_lefts,
-        &mut to_ends,
-        &mut to_nodes,
-    );
     let vars = first_vars(held.count);
-    let missing = sets::without(vars, sorting::left_set(&to_lefts, held.equations));
+    let missing = sets::without(vars, sorting::left_set(&lefts, held.equations));
     if missing != 0 {
         return decks::refused(decks::Answer::NoEquation(sets::lowest(missing) as u64));
     }
@@ -188,17 +175,17 @@ fn finished<'a>(
             vars: vars,
             inits: inits,
             initials: held.initials,
-            lefts: to_lefts,
-            ends: to_ends,
+            lefts: lefts,
+            ends: ends,
             equations: held.equations,
-            nodes: to_nodes,
+            nodes: nodes,
             property: property,
             size: held.size,
         },
     }
 }
 
-// The statements of cards that are in form, then what is missing, then the deck.
+// The statements of cards that are in form, then what is missing, then their equations by rising variable and the deck.
 fn second_pass(text: &[u8]) -> decks::DeckRead
     requires { ⌜ (length (now text) ≤ base .text) × Formed 1 (cardsOf (drop 0 (now text))) ⌝ }
     ensures { λ r. ⌜ r ≡ deckRead (afterwards (walk statementRead 1 (statementsOf (cardsOf (now (text .entry)))) begun) cardsEnd) ⌝ }
@@ -226,7 +213,14 @@ fn second_pass(text: &[u8]) -> decks::DeckRead
     if held.due != cardlines::DUE_NONE {
         return decks::refused(decks::Answer::NotDue(0));
     }
-    finished(held, inits, property, &lefts, &ends, &nodes)
+    sorting::sort(
+        &mut lefts,
+        &mut ends,
+        &mut nodes,
+        held.equations,
+        held.count,
+    );
+    finished(held, inits, property, lefts, ends, nodes)
 }
 
 // A text of cards read as a deck.

@@ -8,11 +8,11 @@ ghost use Rattle.grammar.specs.Ahead.{ahead};
 ghost use Rattle.phrases.specs.Phrases.{markOf, jointMark, Reads, Joins, Closes, Fills};
 
 // How a reading stopped: a whole expression, a character that cannot go on (8), or one that begins an expression at level 33 (11).
-pub const WHOLE: u8 = 0;
+pub const WHOLE: usize = 0;
 
-pub const WRONG: u8 = 1;
+pub const WRONG: usize = 1;
 
-pub const DEEP: u8 = 2;
+pub const DEEP: usize = 2;
 
 // Marks of characters that stand for no node.
 const NO_SIGN: u16 = 0;
@@ -23,7 +23,7 @@ const BRACKET: u16 = 266;
 
 // How a reading stopped, at which place, and how many places of the array are used then.
 pub struct Phrase {
-    pub stop: u8,
+    pub stop: usize,
     pub next: usize,
     pub used: usize,
 }

@@ -1,16 +1,18 @@
 -- Laws of the statement in hand and of the walk from statement to statement.
 use mathlib.Core.Path.{_≡_, refl, sym, ap, _∙_, subst}
+use mathlib.Core.Logic.{by-cases}
 use mathlib.Core.Bool.{Bool, true, false, not, _&&_, _||_}
 use mathlib.Core.List.{List, [], _∷_, _++_}
 use Prim.Native.Nat.{ℕ, suc, _+_, _-_, _*_, _<_, _≤_}
 use native.Mathlib.Omega.{arith}
 use native.Mathlib.Numerals.{add-one}
-use lib.Dec.{ltb}
-use lib.ListN.{length, take, drop, getD, set, replicate, length-append, length-take, length-drop, length-replicate, drop-of-length-le}
-use lib.Seq.{take-all, take-suc}
+use native.Mathlib.Decide.{decLt}
+use lib.Dec.{ltb, eqb}
+use lib.ListN.{length, take, drop, getD, set, replicate, length-append, length-take, length-drop, length-replicate, drop-of-length-le, List·getD-eq-default}
+use lib.Seq.{take-all, take-suc, getD-take, getD-drop}
 use borrow.Author.Tests.{ltb-false}
 use Rattle.lists.specs.Lists.{splice, ended, unended}
-use Rattle.lists.proofs.Laws.{getD-filled, padded-append, padded-snoc, splice-nothing, splice-splice, set-splice, length-splice}
+use Rattle.lists.proofs.Laws.{getD-any, getD-filled, padded-append, padded-snoc, splice-nothing, splice-splice, set-splice, length-splice}
 use Rattle.decks.specs.declared.Answer.the-variants.{BadByte, TooWide, BadStart, BadNumber, TooManyCards}
 use Rattle.decks.specs.Answers.{Outcome, Got, Refused, refuse}
 use Rattle.decks.specs.Readings.{walk}
@@ -25,7 +27,7 @@ use Rattle.firstpass.proofs.Laws.{cards-next, field-filled}
 use Rattle.statements.specs.declared.Stmt.{Stmt}
 use Rattle.statements.specs.declared.Place.{Place}
 use Rattle.statements.specs.declared.Taken.{Taken}
-use Rattle.statements.specs.Hold.{held, stmtOf, Room, filled, withCard, foldedIn, opens, continues, continued, Formed, Placed, AtOpening, FirstOf, Takes}
+use Rattle.statements.specs.Hold.{held, stmtOf, Room, filled, withCard, foldedIn, opens, continues, continued, Formed, cardAt, Placed, AtOpening, FirstOf, Takes}
 
 -- ---- a field put behind those in hand
 
@@ -376,11 +378,55 @@ none-taken text at n p stmt a h s =
 
 -- ---- whether the next card continues the statement
 
-pub none-continues : (text : List ℕ) (at : ℕ) → length text ≤ at → false ≡ continued (cardsOf (drop at text))
-none-continues text at h = ap continued (sym (no-cards text at h))
+-- A kind by its three tests: a comment, a blank card, a card with a blank or `0` in column 6.
+abbrev kindBy : Bool → Bool → Bool → Kind
+kindBy a b c = elim a [ true ↦ Comment | false ↦ elim b [ true ↦ Empty | false ↦ elim c [ true ↦ Opening | false ↦ Continuing ] ] ]
 
-pub next-continues : (text : List ℕ) (at end : ℕ) (kd : CardKind) (b : Bool) → at < length text → end ≡ at + lineLength (drop at text) → kindIs kd ≡ kindOf (take (end - at) (drop at text)) → b ≡ continues (kindIs kd) → b ≡ continued (cardsOf (drop at text))
-next-continues text at end kd b h e q p = p ∙ ap continues q ∙ ap continued (sym (cards-next text at end h e))
+kind-by : (card : List ℕ) → kindOf card ≡ kindBy (isComment card) (every isBlank (columns 1 fieldEnd card)) (isBlank (column 6 card) || eqb (column 6 card) 48)
+unfolding kindOf
+kind-by card = refl
+
+not-continuing : (a b : Bool) → continues (kindBy a b true) ≡ false
+not-continuing true b = refl
+not-continuing false true = refl
+not-continuing false false = refl
+
+-- No card continues a statement that has a blank in column 6.
+blank-mark : (card : List ℕ) → column 6 card ≡ blank → continues (kindOf card) ≡ false
+blank-mark card e =
+    ap continues (kind-by card ∙ ap (λ (x : ℕ). kindBy (isComment card) (every isBlank (columns 1 fieldEnd card)) (isBlank x || eqb x 48)) e)
+    ∙ not-continuing (isComment card) (every isBlank (columns 1 fieldEnd card))
+
+module _ (text : List ℕ) (at : ℕ) where
+  -- What follows is told by the card that begins there.
+  told-by : at < length text → column 6 (cardAt text at) ≡ blank → false ≡ continued (cardsOf (drop at text))
+  told-by h e =
+      let end : ℕ = at + lineLength (drop at text) in
+      let long : lineLength (drop at text) ≡ end - at = omega arith in
+      sym
+      (ap continued (cards-next text at end h refl)
+      ∙ ap (λ (k : ℕ). continues (kindOf (take k (drop at text)))) (sym long)
+      ∙ blank-mark (cardAt text at) e)
+
+  pub short-continues : length text ≤ at + 5 → false ≡ continued (cardsOf (drop at text))
+  short-continues h =
+      by-cases
+      (decLt at (length text))
+      (λ l. told-by l (List·getD-eq-default (cardAt text at) blank {n = 5} (omega (arith, length-take (lineLength (drop at text)) (drop at text), length-drop at text))))
+      (λ n. ap continued (sym (no-cards text at (omega arith))))
+
+  pub blank-continues : at + 5 < length text → getD text (at + 5) 0 ≡ 32 → false ≡ continued (cardsOf (drop at text))
+  blank-continues h e =
+      let d : List ℕ = drop at text in
+      told-by
+      (omega arith)
+      (by-cases
+      (decLt 5 (lineLength d))
+      (λ l. getD-take (lineLength d) d 5 blank l ∙ getD-drop at text 5 blank ∙ getD-any text (at + 5) blank 0 h ∙ e)
+      (λ n. List·getD-eq-default (cardAt text at) blank {n = 5} (omega (arith, length-take (lineLength d) d))))
+
+pub next-continues : (text : List ℕ) (at end : ℕ) (kd : CardKind) (b : Bool) → at + 5 < length text → end ≡ at + lineLength (drop at text) → kindIs kd ≡ kindOf (take (end - at) (drop at text)) → b ≡ continues (kindIs kd) → b ≡ continued (cardsOf (drop at text))
+next-continues text at end kd b h e q p = p ∙ ap continues q ∙ ap continued (sym (cards-next text at end (omega arith) e))
 
 -- A statement that the next card does not continue is laid down before it.
 laid-before : (n : ℕ) (cs : List (List ℕ)) (s : Statement) → continued cs ≡ false → gathered n cs (Held s) ≡ s ∷ gathered n cs Nothing

@@ -21,6 +21,9 @@ pub const CARDS: usize = 20;
 
 pub const FIELD: usize = 66;
 
+// Column 6, from the card's first on.
+const MARK: usize = 5;
+
 // A statement in hand: the fields of its cards one after the other, each filled with blanks to its 66 columns, and the numbers of its cards.
 pub struct Stmt {
     pub chars: [u8; CHARACTERS],
@@ -174,11 +177,15 @@ fn continues(kind: CardKind) -> bool
     }
 }
 
-// Whether the card that begins at a place of the text, if one does, continues the statement before it.
+// Whether the card that begins at a place of the text, if one does, continues the statement before it: none does that has a blank in column 6.
 pub fn is_continued(text: &[u8], at: usize) -> bool
+    requires { ⌜ at ≤ length (now text) + 1 ⌝ }
     ensures { λ r. ⌜ r ≡ continued (cardsOf (drop at (now (text .entry)))) ⌝ }
 {
-    if text.len() <= at {
+    if text.len() <= at + MARK {
+        return false;
+    }
+    if text[at + MARK] == b' ' {
         return false;
     }
     let end = line_end(text, at);

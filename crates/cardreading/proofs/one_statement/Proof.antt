@@ -11,7 +11,7 @@ add-n : tie.Need-add-n
 add-n c = omega (arith, c .before .before .before .before .before .before .before .before .pre .1 .near, c .before .before .before .before .before .before .before .before .pre .0)
 
 is-continued-requires : tie.Need-is-continued-requires
-is-continued-requires c κs = search needs
+is-continued-requires c κs = search (needs, laws.next-near)
 
 continued-statement-requires : tie.Need-continued-statement-requires
 continued-statement-requires c κs = search needs

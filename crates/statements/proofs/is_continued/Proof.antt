@@ -3,8 +3,20 @@ use Rattle.statements.proofs.is_continued.Statement.{statement}
 use Rattle.statements.proofs.is_continued.Tie as tie
 use Rattle.statements.proofs.Laws as laws
 
+add-if1 : tie.Need-add-if1
+add-if1 c = search needs
+
 returns : tie.Need-returns
-returns c = search (needs, laws.none-continues)
+returns c = search (needs, laws.short-continues)
+
+add-if2 : tie.Need-add-if2
+add-if2 c = search needs
+
+shared-slice-read-if2 : tie.Need-shared-slice-read-if2
+shared-slice-read-if2 c = search needs
+
+returns-2 : tie.Need-returns-2
+returns-2 c = search (needs, laws.blank-continues)
 
 line-end-requires : tie.Need-line-end-requires
 line-end-requires c κs = search needs
@@ -24,18 +36,22 @@ kind-of-requires c κs = search needs
 continues-requires : tie.Need-continues-requires
 continues-requires c κs = search needs
 
-returns-2 : tie.Need-returns-2
-returns-2 c = search (needs, laws.next-continues)
+returns-3 : tie.Need-returns-3
+returns-3 c = search (needs, laws.next-continues)
 
 pub is-continued-spec : {M : Type 1} → statement M
 is-continued-spec =
     tie.close
     (tie.spec
+    add-if1
     returns
+    add-if2
+    shared-slice-read-if2
+    returns-2
     line-end-requires
     sub-kind-of
     part-kind-of-start
     part-kind-of-end
     kind-of-requires
     continues-requires
-    returns-2)
+    returns-3)
