@@ -1,6 +1,8 @@
 /* Runs the library and the reference on the same inputs in this process, holds
    every reply of the one against the other's, and prints how their times
-   compare and how much stack each operation used. */
+   compare and how much stack each operation used. The rounds of an input are
+   spread over the whole run, so that what else the machine does for a while
+   falls on a few rounds of every input and not on all rounds of one. */
 #include "micaplume.h"
 #include "../tests/reference/reference.h"
 #include "inputs.h"
@@ -12,8 +14,8 @@
 #include <time.h>
 #include <ucontext.h>
 
-enum { ROUNDS = 25, OUT_BYTES = 1 << 20, STACK_BYTES = 1 << 20, PAINT = 0xA5, FILL = 0x5A };
-enum { STACK_MOST = 65536 };
+enum { PASSES = 9, ROUNDS = 3 * PASSES, OUT_BYTES = 1 << 20, STACK_BYTES = 1 << 20, PAINT = 0xA5, FILL = 0x5A };
+enum { STACK_MOST = 65536, JOBS_MOST = 64 };
 
 static const double round_seconds = 0.002;
 
@@ -28,6 +30,11 @@ struct job {
     const char *input;
     struct text one, two; /* the deck, and the claim of a check */
     uint64_t set;         /* of a cone */
+    unsigned number;      /* replied */
+    size_t stack;
+    unsigned library_calls, reference_calls; /* in a round */
+    unsigned rounds;                         /* done */
+    double library[ROUNDS], reference[ROUNDS], ratio[ROUNDS];
 };
 
 /* The answer, the counts and the lent bytes of one side. */
@@ -149,34 +156,25 @@ static int by_size(const void *a, const void *b)
     return (x > y) - (x < y);
 }
 
-struct times {
-    double library, reference;      /* median of the rounds */
-    double ratio, lower, upper;     /* median and quartiles of library to reference in a round */
-};
-
-static double median_of(double rounds[ROUNDS])
+static double quartile(const double rounds[ROUNDS], unsigned which)
 {
-    qsort(rounds, ROUNDS, sizeof rounds[0], by_size);
-    return rounds[ROUNDS / 2];
+    double sorted[ROUNDS];
+    memcpy(sorted, rounds, sizeof sorted);
+    qsort(sorted, ROUNDS, sizeof sorted[0], by_size);
+    return sorted[(ROUNDS - 1) * which / 4];
 }
 
-static struct times compare(const struct job *job)
+static double median(const double rounds[ROUNDS])
 {
-    double library[ROUNDS], reference[ROUNDS], ratio[ROUNDS];
-    struct times times;
-    unsigned library_calls = calls_for(run_library, job, &library_reply);
-    unsigned reference_calls = calls_for(run_reference, job, &reference_reply);
-    for (int i = 0; i < ROUNDS; i++) {
-        library[i] = time_of(run_library, job, &library_reply, library_calls);
-        reference[i] = time_of(run_reference, job, &reference_reply, reference_calls);
-        ratio[i] = library[i] / reference[i];
-    }
-    times.library = median_of(library);
-    times.reference = median_of(reference);
-    times.ratio = median_of(ratio);
-    times.lower = ratio[ROUNDS / 4];
-    times.upper = ratio[ROUNDS - 1 - ROUNDS / 4];
-    return times;
+    return quartile(rounds, 2);
+}
+
+static void run_round(struct job *job)
+{
+    unsigned i = job->rounds++;
+    job->library[i] = time_of(run_library, job, &library_reply, job->library_calls);
+    job->reference[i] = time_of(run_reference, job, &reference_reply, job->reference_calls);
+    job->ratio[i] = job->library[i] / job->reference[i];
 }
 
 /* ---- Stack ---- */
@@ -217,30 +215,32 @@ static size_t stack_of(side *run, const struct job *job, struct reply *reply)
     return with - bytes_touched(run_nothing, job, reply);
 }
 
-/* ---- The table ---- */
+/* ---- The inputs ---- */
 
-static int failures;
+static struct job jobs[JOBS_MOST];
+static unsigned rows;    /* jobs of the table */
+static unsigned lengths; /* jobs of the table of lengths, behind them */
 
-static void measure(const struct job *job)
+/* The job that is put together; add_job takes it as it stands. */
+static struct job next;
+
+static void add_job(enum operation operation, const char *input, unsigned *count)
 {
-    const char *name = operation_name[job->operation];
-    size_t size = job->one.length + (job->operation == CHECK ? job->two.length : 0);
-    if (!same_reply(job)) {
-        printf("%-14s %-22s REPLIES DIFFER\n", name, job->input);
-        failures++;
-        return;
+    unsigned at = rows + lengths;
+    if (at == JOBS_MOST) {
+        fprintf(stderr, "bench: too many inputs\n");
+        exit(2);
     }
-    size_t stack = stack_of(run_library, job, &library_reply);
-    struct times t = compare(job);
-    printf("%-14s %-22s %6zu %6u %10.2f %10.2f %6.2f  %5.2f to %5.2f %8zu%s\n", name, job->input, size,
-           (unsigned)(library_reply.answer & 255), 1e6 * t.library, 1e6 * t.reference, t.ratio, t.lower,
-           t.upper, stack, stack > STACK_MOST ? "  TOO MUCH STACK" : t.ratio > 1 ? "  slower" : "");
-    fflush(stdout);
-    if (stack > STACK_MOST)
-        failures++;
+    jobs[at] = next;
+    jobs[at].operation = operation;
+    jobs[at].input = input;
+    (*count)++;
 }
 
-static struct job job;
+static size_t text_bytes(const struct job *job)
+{
+    return job->one.length + (job->operation == CHECK ? job->two.length : 0);
+}
 
 static void to_frames(struct text *cards)
 {
@@ -254,28 +254,21 @@ static void to_frames(struct text *cards)
     *cards = frames;
 }
 
-static void measure_as(enum operation operation, const char *input)
+static void add_cards(const char *input)
 {
-    job.operation = operation;
-    job.input = input;
-    measure(&job);
+    add_job(WRITE_CARDS, input, &rows);
+    add_job(REDUCE_CARDS, input, &rows);
 }
 
-static void measure_cards(const char *input)
+/* All operations on a deck of cards. */
+static void add_deck(const char *input, uint64_t set)
 {
-    measure_as(WRITE_CARDS, input);
-    measure_as(REDUCE_CARDS, input);
-}
-
-/* All operations on the deck of cards in job.one. */
-static void measure_deck(const char *input, uint64_t set)
-{
-    measure_cards(input);
-    to_frames(&job.one);
-    measure_as(WRITE_FRAMES, input);
-    measure_as(REDUCE_FRAMES, input);
-    job.set = set;
-    measure_as(CONE, input);
+    add_cards(input);
+    to_frames(&next.one);
+    next.set = set;
+    add_job(WRITE_FRAMES, input, &rows);
+    add_job(REDUCE_FRAMES, input, &rows);
+    add_job(CONE, input, &rows);
 }
 
 /* The first piece of the worked deck. */
@@ -287,87 +280,111 @@ static void first_piece(struct text *deck)
     memcpy(deck->byte, piece, deck->length);
 }
 
-static void measure_all(void)
+static void add_rows(void)
 {
     static const struct {
         unsigned size;
         const char *name;
     } chain[] = { { 8, "chain of 8" }, { 16, "chain of 16" }, { 32, "chain of 32" }, { 64, "chain of 64" } },
-      claim[] = { { 16, "16 states, all limits" }, { 256, "256 states, all limits" },
-                  { 1024, "1,024 states, all limits" } };
+      claim[] = { { 16, "16 states" }, { 256, "256 states" }, { 1024, "1,024 states" } };
 
-    printf("%-14s %-22s %6s %6s %10s %10s %6s  %-14s %8s\n", "operation", "input", "bytes", "number",
-           "library us", "ref. us", "ratio", "quartiles", "stack");
-    worked_deck(&job.one);
-    measure_deck("worked deck", 2);
-    limits_deck(&job.one);
-    measure_deck("all limits", 1);
-    limits_deck(&job.one);
-    fill_with_comments(&job.one, TEXT_MOST);
-    measure_cards("all limits, comments");
-    conjuncts_deck(&job.one);
-    measure_deck("64 conjuncts", 1);
+    worked_deck(&next.one);
+    add_deck("worked deck", 2);
+    limits_deck(&next.one);
+    add_deck("all limits", 1);
+    limits_deck(&next.one);
+    fill_with_comments(&next.one, TEXT_MOST);
+    add_cards("all limits, comments");
+    conjuncts_deck(&next.one);
+    add_deck("64 conjuncts", 1);
     for (size_t i = 0; i < sizeof chain / sizeof chain[0]; i++) {
-        chain_deck(&job.one, chain[i].size);
-        measure_deck(chain[i].name, 1);
+        chain_deck(&next.one, chain[i].size);
+        add_deck(chain[i].name, 1);
     }
-    first_piece(&job.one);
-    worked_claim(&job.two);
-    measure_as(CHECK, "worked claim");
+    first_piece(&next.one);
+    worked_claim(&next.two);
+    add_job(CHECK, "worked claim", &rows);
+    limits_deck(&next.one);
+    to_frames(&next.one);
     for (size_t i = 0; i < sizeof claim / sizeof claim[0]; i++) {
-        limits_deck(&job.one);
-        to_frames(&job.one);
-        limits_claim(&job.two, claim[i].size);
-        measure_as(CHECK, claim[i].name);
+        limits_claim(&next.two, claim[i].size);
+        add_job(CHECK, claim[i].name, &rows);
     }
-}
-
-/* ---- Time over length ---- */
-
-/* The times on a text, and from the second length on the nanoseconds that each
-   byte more took. */
-static void measure_length(const char *what, bool first)
-{
-    static size_t size_before;
-    static double library_before, reference_before;
-    struct times t = compare(&job);
-    size_t size = job.one.length + (job.operation == CHECK ? job.two.length : 0);
-    printf("%-37s %6zu %10.2f %10.2f", what, size, 1e6 * t.library, 1e6 * t.reference);
-    if (!first) {
-        double more = (double)(size - size_before);
-        printf(" %13.2f %13.2f", 1e9 * (t.library - library_before) / more,
-               1e9 * (t.reference - reference_before) / more);
-    }
-    printf("\n");
-    fflush(stdout);
-    size_before = size;
-    library_before = t.library;
-    reference_before = t.reference;
 }
 
 /* The same deck in longer and longer texts, and longer and longer claims. */
-static void measure_lengths(void)
+static void add_lengths(void)
 {
-    printf("\n%-37s %6s %10s %10s %13s %13s\n", "text", "bytes", "library us", "ref. us", "ns, byte more",
-           "ref.");
-    job.operation = WRITE_CARDS;
     for (size_t bytes = TEXT_MOST / 8; bytes <= TEXT_MOST; bytes *= 2) {
-        worked_deck(&job.one);
-        fill_with_comments(&job.one, bytes);
-        measure_length("write cards, worked deck, comments", bytes == TEXT_MOST / 8);
+        worked_deck(&next.one);
+        fill_with_comments(&next.one, bytes);
+        add_job(WRITE_CARDS, "worked deck, comments", &lengths);
     }
-    empty_deck(&job.one);
-    to_frames(&job.one);
-    job.operation = CHECK;
+    empty_deck(&next.one);
+    to_frames(&next.one);
     for (unsigned states = 128; states <= 1024; states *= 2) {
-        empty_claim(&job.two, states);
-        measure_length("check, claims without variables", states == 128);
+        empty_claim(&next.two, states);
+        add_job(CHECK, "no variables", &lengths);
+    }
+}
+
+/* ---- The tables ---- */
+
+static void print_rows(void)
+{
+    printf("%-14s %-20s %6s %6s %10s %10s %6s  %-14s %6s\n", "operation", "input", "bytes", "number",
+           "library us", "ref. us", "ratio", "quartiles", "stack");
+    for (unsigned i = 0; i < rows; i++) {
+        const struct job *job = &jobs[i];
+        double ratio = median(job->ratio);
+        printf("%-14s %-20s %6zu %6u %10.2f %10.2f %6.2f  %5.2f to %5.2f %6zu%s\n",
+               operation_name[job->operation], job->input, text_bytes(job), job->number,
+               1e6 * median(job->library), 1e6 * median(job->reference), ratio,
+               quartile(job->ratio, 1), quartile(job->ratio, 3), job->stack,
+               job->stack > STACK_MOST ? "  TOO MUCH STACK" : ratio > 1 ? "  slower" : "");
+    }
+}
+
+/* From the second length on with the nanoseconds that each byte more took. */
+static void print_lengths(void)
+{
+    printf("\n%-14s %-22s %6s %10s %10s %14s %10s\n", "operation", "input", "bytes", "library us",
+           "ref. us", "ns a byte more", "ref.");
+    for (unsigned i = rows; i < rows + lengths; i++) {
+        const struct job *job = &jobs[i], *before = &jobs[i - 1];
+        printf("%-14s %-22s %6zu %10.2f %10.2f", operation_name[job->operation], job->input,
+               text_bytes(job), 1e6 * median(job->library), 1e6 * median(job->reference));
+        if (i > rows && before->operation == job->operation) {
+            double more = (double)(text_bytes(job) - text_bytes(before));
+            printf(" %14.2f %10.2f", 1e9 * (median(job->library) - median(before->library)) / more,
+                   1e9 * (median(job->reference) - median(before->reference)) / more);
+        }
+        printf("\n");
     }
 }
 
 int main(void)
 {
-    measure_all();
-    measure_lengths();
-    return failures != 0;
+    bool passed = true;
+    add_rows();
+    add_lengths();
+    for (unsigned i = 0; i < rows + lengths; i++) {
+        struct job *job = &jobs[i];
+        if (!same_reply(job)) {
+            fprintf(stderr, "bench: %s, %s: the replies differ\n", operation_name[job->operation], job->input);
+            return 1;
+        }
+        job->number = (unsigned)(library_reply.answer & 255);
+        job->stack = stack_of(run_library, job, &library_reply);
+        job->library_calls = calls_for(run_library, job, &library_reply);
+        job->reference_calls = calls_for(run_reference, job, &reference_reply);
+        passed = passed && job->stack <= STACK_MOST;
+    }
+    for (unsigned pass = 0; pass < PASSES; pass++)
+        for (unsigned i = 0; i < rows + lengths; i++)
+            while (jobs[i].rounds < (pass + 1) * (ROUNDS / PASSES))
+                run_round(&jobs[i]);
+    print_rows();
+    print_lengths();
+    return passed ? 0 : 1;
 }
