@@ -12,11 +12,8 @@ write-all-requires c κs = search needs
 returns : tie.Need-returns
 returns c = search needs
 
-slice-aggregate-write-all-2 : tie.Need-slice-aggregate-write-all-2
-slice-aggregate-write-all-2 c = search needs
-
-write-all-requires-2 : tie.Need-write-all-requires-2
-write-all-requires-2 c κs = search needs
+say-unwritten-requires : tie.Need-say-unwritten-requires
+say-unwritten-requires c κs = search needs
 
 returns-2 : tie.Need-returns-2
 returns-2 c = search needs
@@ -28,6 +25,5 @@ write-reply-spec =
     slice-aggregate-write-all
     write-all-requires
     returns
-    slice-aggregate-write-all-2
-    write-all-requires-2
+    say-unwritten-requires
     returns-2)
