@@ -71,6 +71,10 @@ module _ (chars : List ℕ) (at end p : ℕ) where
         rest = s .same ∙ e ∙ sym (ap (drop 1) e);
       }
 
+-- It is mostly the next character.
+pub inks-next : (chars : List ℕ) (at end : ℕ) → at < end → end ≤ length chars → (getD chars at 0 ≡ 32 → ⊥) → Inks chars at end (record { code = getD chars at 0; place = at; next = at + 1 })
+inks-next chars at end h k n = inks-here chars at end at k (skips-here chars at at end (omega arith) h n refl) h
+
 module _ (chars : List ℕ) (at end : ℕ) (r : Ink) where
   -- Before the end the characters ahead are the next one and those behind it.
   pub ink-cons : end ≤ length chars → Inks chars at end r → r .place < end → ahead chars at end ≡ r .code ∷ ahead chars (r .next) end

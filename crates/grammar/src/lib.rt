@@ -52,11 +52,21 @@ pub fn skip(chars: &[u8], at: usize, end: usize) -> usize
     i
 }
 
-// The next character that is no blank.
+// The next character that is no blank: mostly the next one.
 pub fn next_ink(chars: &[u8], at: usize, end: usize) -> Ink
     requires { ⌜ (at ≤ end) × (end ≤ length (now chars)) ⌝ }
     ensures { λ r. ⌜ Inks (now (chars .entry)) at end r ⌝ }
 {
+    if at < end {
+        let c = chars[at];
+        if c != BLANK {
+            return Ink {
+                code: c,
+                place: at,
+                next: at + 1,
+            };
+        }
+    }
     let place = skip(chars, at, end);
     if place < end {
         return Ink {
