@@ -1,11 +1,11 @@
 // The reader of cards: a text of cards read as a deck.
 ghost use mathlib.Core.Path.{_≡_};
 ghost use mathlib.Core.Bool.{true};
-ghost use Prim.Native.Nat.{ℕ, _+_, _-_, _^_, _<_, _≤_};
-ghost use lib.ListN.{length, drop, replicate};
+ghost use Prim.Native.Nat.{_<_, _≤_};
+ghost use lib.ListN.{length, drop};
 ghost use Rattle.logic.specs.Decks.{base};
 ghost use Rattle.decks.specs.declared.Answer.the-variants.{Fine};
-ghost use Rattle.decks.specs.Answers.{Refused, afterwards};
+ghost use Rattle.decks.specs.Answers.{afterwards};
 ghost use Rattle.decks.specs.Readings.{walk, complete};
 ghost use Rattle.decks.specs.Stored.{deckRead};
 ghost use Rattle.cards.specs.Card.{cardsOf};
@@ -124,7 +124,7 @@ fn all_statements(
     nodes: &mut [u16],
     property: &mut [u16],
 ) -> cardlines::StatementRead
-    requires { ⌜ (length (now text) ≤ base .text) × Formed 1 (cardsOf (drop 0 (now text))) × Empty (now inits) (now scratch) (now lefts) (now ends) (now nodes) (now property) ⌝ }
+    requires { ⌜ Formed 1 (cardsOf (drop 0 (now text))) × Empty (now inits) (now scratch) (now lefts) (now ends) (now nodes) (now property) ⌝ }
     ensures { λ r. ⌜ Came (walk statementRead 1 (statementsOf (cardsOf (now (text .entry)))) begun) r (now (inits .exit)) (now (lefts .exit)) (now (ends .exit)) (now (nodes .exit)) (now (property .exit)) ⌝ }
 {
     let mut held = cardlines::nothing();
@@ -187,7 +187,7 @@ fn finished(
 
 // The statements of cards that are in form, then what is missing, then their equations by rising variable and the deck.
 fn second_pass(text: &[u8]) -> decks::DeckRead
-    requires { ⌜ (length (now text) ≤ base .text) × Formed 1 (cardsOf (drop 0 (now text))) ⌝ }
+    requires { ⌜ Formed 1 (cardsOf (drop 0 (now text))) ⌝ }
     ensures { λ r. ⌜ r ≡ deckRead (afterwards (walk statementRead 1 (statementsOf (cardsOf (now (text .entry)))) begun) cardsEnd) ⌝ }
 {
     let mut inits = [0u64; decks::INITIALS * decks::WORDS];

@@ -22,7 +22,7 @@ pub fn verdict_on(
 {
     let first = decks::state_at(states, 0);
     let initials = d.initials;
-    if !steps::is_among(&d.inits, initials, first) {
+    if !decks::stands_in(&d.inits, initials, first) {
         return decks::Answer::NotInitial;
     }
     steps::mark_all(

@@ -1,7 +1,6 @@
 // Replies in words: of a refusal what its number means, the card or line at fault and what to do; of an accepted deck a
 // summary. Number, text, place, pieces and deck are the station's; only safety is promised here.
 ghost use Prim.Native.Nat.{_≤_};
-ghost use lib.ListN.{length};
 ghost use Rattle.io.specs.Counts.{Counts};
 use wording::put;
 use wording::showing;

@@ -4,8 +4,9 @@ use mathlib.Core.List.{List, [], _∷_, _++_}
 use Prim.Native.Nat.{ℕ}
 use Prim.Native.String.{String}
 use Rattle.lists.specs.Texts.{bytes}
+use Rattle.logic.specs.Expressions.{decimal}
 use Rattle.frames.specs.Hex.{hexDigit, pairs}
-use Rattle.printing.specs.Printed.{refusalFrame, decimal, sizeText, coneLine}
+use Rattle.printing.specs.Printed.{refusalFrame, sizeText, coneLine}
 
 -- A line with its end.
 abbrev line : String → List ℕ

@@ -13,6 +13,7 @@ use Rattle.lists.proofs.Laws.{splice-splice, splice-rest}
 use Rattle.frames.specs.Hex.{pair, pairs}
 use Rattle.frames.specs.Written.{frame, deckFrames}
 use Rattle.frames.specs.Read.{readDeck}
+use Rattle.logic.specs.Expressions.{decimal}
 use Rattle.logic.specs.Decks.{Deck}
 use Rattle.decks.specs.declared.Answer.{Answer}
 use Rattle.decks.specs.declared.Reply.{Reply}
@@ -26,7 +27,7 @@ use Rattle.station.specs.declared.CountReply.{CountReply}
 use Rattle.station.specs.Promises.{writeReply, writeBuffer, reduceReply, reduceBuffer, coneReply}
 use Rattle.station.specs.Readable.{Readable}
 use Rattle.station.proofs.ReplyLaws.{reduced-as}
-use Rattle.printing.specs.Printed.{refusalKind, refusalFrame, replyFrame, answerFrame, printedAs, printed, printedInto, deckPrintedInto, replied, decimal, sizeText, coneLine, conePrinted, conePrintedInto, verdictInto}
+use Rattle.printing.specs.Printed.{refusalKind, refusalFrame, replyFrame, answerFrame, printedAs, printed, printedInto, deckPrintedInto, replied, sizeText, coneLine, conePrinted, conePrintedInto, verdictInto}
 
 -- ---- texts into buffers
 
@@ -198,22 +199,22 @@ module _ (o : Outcome Deck) (out mid after : List ℕ) (r : CountReply) (n : ℕ
 -- ---- a cone, or FF
 
 module _ (size : ℕ) where
-  one-digit : size < 10 → sizeText size ≡ 32 ∷ (48 + size) ∷ 10 ∷ []
+  one-digit : size % 100 < 10 → sizeText size ≡ 32 ∷ (48 + size % 100) ∷ 10 ∷ []
   unfolding sizeText decimal
-  one-digit h = simp (lt-ltb size 10 h, decimal)
+  one-digit h = simp (lt-ltb (size % 100) 10 h, decimal)
 
-  two-digits : 10 ≤ size → sizeText size ≡ 32 ∷ (48 + size / 10 % 10) ∷ (48 + size % 10) ∷ 10 ∷ []
+  two-digits : 10 ≤ size % 100 → sizeText size ≡ 32 ∷ (48 + size % 100 / 10) ∷ (48 + size % 100 % 10) ∷ 10 ∷ []
   unfolding sizeText decimal
-  two-digits h = simp (le-ltb size 10 h, decimal)
+  two-digits h = simp (le-ltb (size % 100) 10 h, decimal)
 
-  pub three-bytes : size < 10 → 3 ≡ length (sizeText size)
+  pub three-bytes : size % 100 < 10 → 3 ≡ length (sizeText size)
   three-bytes h = sym (ap (λ (l : List ℕ). length l) (one-digit h))
 
-  pub four-bytes : 10 ≤ size → 4 ≡ length (sizeText size)
+  pub four-bytes : 10 ≤ size % 100 → 4 ≡ length (sizeText size)
   four-bytes h = sym (ap (λ (l : List ℕ). length l) (two-digits h))
 
   pub least-bytes : 3 ≤ length (sizeText size)
-  least-bytes = by-cases (decLe 10 size) (λ h. omega (arith, four-bytes h)) (λ n. let h : size < 10 = omega arith in omega (arith, three-bytes h))
+  least-bytes = by-cases (decLe 10 (size % 100)) (λ h. omega (arith, four-bytes h)) (λ n. let h : size % 100 < 10 = omega arith in omega (arith, three-bytes h))
 
 three-stores : (l : List ℕ) (x y z : ℕ) → 3 ≤ length l → set (set (set l 0 x) 1 y) 2 z ≡ splice 0 (x ∷ y ∷ z ∷ []) l
 three-stores [] x y z h = absurd (omega arith)
@@ -229,12 +230,12 @@ four-stores (a ∷ b ∷ c ∷ []) x y z u h = absurd (omega arith)
 four-stores (a ∷ b ∷ c ∷ d ∷ l) x y z u h = refl
 
 module _ (size : ℕ) (l : List ℕ) (room : length (sizeText size) ≤ length l) where
-  pub one-digit-put : size < 10 → set (set (set l 0 32) 1 (48 + size)) 2 10 ≡ splice 0 (sizeText size) l
-  one-digit-put h = three-stores l 32 (48 + size) 10 (omega (arith, room, three-bytes size h)) ∙ ap (λ (v : List ℕ). splice 0 v l) (sym (one-digit size h))
+  pub one-digit-put : size % 100 < 10 → set (set (set l 0 32) 1 (48 + size % 100)) 2 10 ≡ splice 0 (sizeText size) l
+  one-digit-put h = three-stores l 32 (48 + size % 100) 10 (omega (arith, room, three-bytes size h)) ∙ ap (λ (v : List ℕ). splice 0 v l) (sym (one-digit size h))
 
-  pub two-digits-put : 10 ≤ size → set (set (set (set l 0 32) 1 (48 + size / 10 % 10)) 2 (48 + size % 10)) 3 10 ≡ splice 0 (sizeText size) l
+  pub two-digits-put : 10 ≤ size % 100 → set (set (set (set l 0 32) 1 (48 + size % 100 / 10)) 2 (48 + size % 100 % 10)) 3 10 ≡ splice 0 (sizeText size) l
   two-digits-put h =
-      four-stores l 32 (48 + size / 10 % 10) (48 + size % 10) 10 (omega (arith, room, four-bytes size h)) ∙ ap (λ (v : List ℕ). splice 0 v l) (sym (two-digits size h))
+      four-stores l 32 (48 + size % 100 / 10) (48 + size % 100 % 10) 10 (omega (arith, room, four-bytes size h)) ∙ ap (λ (v : List ℕ). splice 0 v l) (sym (two-digits size h))
 
 set-bytes : (s : ℕ) → length (pairs 8 s) ≡ 16
 unfolding pairs

@@ -1,9 +1,10 @@
 -- What the program prints: what was asked for, or one frame FF with number, text and place.
 use mathlib.Core.Bool.{true, false}
 use mathlib.Core.List.{List, [], _∷_, _++_}
-use Prim.Native.Nat.{ℕ, _+_, _/_, _%_}
+use Prim.Native.Nat.{ℕ, _%_}
 use lib.Dec.{ltb, eqb}
 use lib.ListN.{length}
+use Rattle.logic.specs.Expressions.{decimal}
 use Rattle.logic.specs.Decks.{Deck}
 use Rattle.decks.specs.declared.Answer.{Answer}
 use Rattle.decks.specs.declared.Answer.the-variants.{Fine, NoRoom}
@@ -60,13 +61,9 @@ replied r bytes out = elim (eqb (r .number) 0) [ true ↦ record { report = reco
 
 -- ---- a cone, or FF
 
--- A number below 100 in decimal, without a leading zero.
-unfoldable pub decimal : ℕ → List ℕ
-decimal n = elim (ltb n 10) [ true ↦ (48 + n) ∷ [] | false ↦ (48 + n / 10 % 10) ∷ (48 + n % 10) ∷ [] ]
-
--- A blank, a size and the end of the line.
+-- A blank, a size, which is below 100, and the end of the line.
 unfoldable pub sizeText : ℕ → List ℕ
-sizeText n = 32 ∷ (decimal n ++ (10 ∷ []))
+sizeText n = 32 ∷ (decimal (n % 100) ++ (10 ∷ []))
 
 -- A set in sixteen digits and its size.
 unfoldable pub coneLine : ℕ → ℕ → List ℕ

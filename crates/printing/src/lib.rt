@@ -1,10 +1,9 @@
 // What the program prints, each reply with every byte promised: what was asked for, or one frame FF.
 ghost use mathlib.Core.Path.{_≡_};
-ghost use mathlib.Core.List.{List};
-ghost use Prim.Native.Nat.{ℕ, _≤_};
+ghost use Prim.Native.Nat.{_≤_};
 ghost use lib.ListN.{length};
 ghost use Rattle.lists.specs.Lists.{splice};
-ghost use Rattle.texts.specs.Texts.{Filled, filled};
+ghost use Rattle.texts.specs.Texts.{filled};
 ghost use Rattle.cards.specs.Read.{readCards};
 ghost use Rattle.frames.specs.Read.{readDeck};
 ghost use Rattle.printing.specs.Printed.{refusalFrame, printedInto, deckPrintedInto, replied, sizeText, coneLine, conePrintedInto, verdictInto};
@@ -70,7 +69,7 @@ pub fn frames_deck(text: &[u8], out: &mut [u8]) -> usize
 fn size_bytes(size: u64) -> usize
     ensures { λ n. ⌜ (n ≡ length (sizeText size)) × (n ≤ 4) ⌝ }
 {
-    if size < 10 {
+    if size % 100 < 10 {
         return 3;
     }
     4
@@ -81,14 +80,15 @@ fn put_size(out: &mut [u8], size: u64)
     requires { ⌜ length (sizeText size) ≤ length (now out) ⌝ }
     ensures { λ _. ⌜ now (out .exit) ≡ splice 0 (sizeText size) (now (out .entry)) ⌝ }
 {
+    let n = size % 100;
     out[0] = 32;
-    if size < 10 {
-        out[1] = (48 + size) as u8;
+    if n < 10 {
+        out[1] = (48 + n) as u8;
         out[2] = 10;
         return;
     }
-    out[1] = (48 + size / 10 % 10) as u8;
-    out[2] = (48 + size % 10) as u8;
+    out[1] = (48 + n / 10) as u8;
+    out[2] = (48 + n % 10) as u8;
     out[3] = 10;
 }
 

@@ -1,17 +1,13 @@
 -- Marks of steps, one equation after the other.
-use mathlib.Core.Path.{_≡_, refl, sym, ap, ap₂, _∙_}
+use mathlib.Core.Path.{_≡_, refl, sym, ap, _∙_}
 use mathlib.Core.Logic.{by-cases}
 use mathlib.Core.Bool.{Bool, true, false, not}
-use mathlib.Core.List.{List, _∷_}
-use Prim.Native.Nat.{ℕ, suc, _+_, _-_, _%_, _^_, _<_, _≤_}
+use mathlib.Core.List.{List}
+use Prim.Native.Nat.{ℕ, _+_, _-_, _%_, _^_, _<_, _≤_}
 use native.Mathlib.Omega.{arith}
 use native.Mathlib.Decide.{ℕ-discrete}
-use native.Mathlib.Numerals.{add-one}
-use borrow.Author.Tests.{eq-eqb, ne-eqb}
 use lib.Dec.{eqb}
-use lib.ListN.{length, take, drop, getD, set}
-use lib.Seq.{drop-cons}
-use Rattle.lists.specs.Lists.{stands}
+use lib.ListN.{length, getD, set}
 use Rattle.sets.specs.Sets.{bit, only, union, inside, width}
 use Rattle.evaluator.specs.Pending.{Done, following, tops}
 use Rattle.evaluator.proofs.Laws.{done-next, following-next, following-last}
@@ -73,29 +69,6 @@ module _ (words states old : List ℕ) (p v : ℕ) where
       let z : k + 1 ≡ length old = omega (arith, d .same) in
       let y : h ≡ following (length states) p k = omega (arith, following-last (length states) p k (omega (arith, d .same))) in
       rw z at (step-next new after k h d b y s)
-
--- ---- a state among others
-
-pub among-start : (row : List ℕ) (n s : ℕ) → stands s (take n row) ≡ stands s (take (n - 0) (drop 0 row))
-among-start row n s = let z : n ≡ n - 0 = omega arith in ap (λ (k : ℕ). stands s (take k row)) z
-
-module _ (row : List ℕ) (n s i : ℕ) (all : Bool) where
-  left-part : i < n → n ≤ length row → take (n - i) (drop i row) ≡ getD row i 0 ∷ take (n - (i + 1)) (drop (i + 1) row)
-  left-part l h =
-      let e : n - i ≡ suc (n - (i + 1)) = omega arith in
-      ap₂ (λ (k : ℕ) (r : List ℕ). take k r) e (drop-cons row i 0 (omega arith) ∙ ap (λ (k : ℕ). getD row i 0 ∷ drop k row) (sym (add-one i)))
-
-  pub among-met : (t : ℕ) → i < n → n ≤ length row → all ≡ stands s (take (n - i) (drop i row)) → t ≡ getD row i 0 → s ≡ t → true ≡ all
-  unfolding stands
-  among-met t l h e q z = sym (e ∙ ap (stands s) (left-part l h) ∙ simp (eq-eqb s (getD row i 0) (z ∙ q), stands))
-
-  pub among-on : (t : ℕ) → i < n → n ≤ length row → all ≡ stands s (take (n - i) (drop i row)) → t ≡ getD row i 0 → (s ≡ t → ⊥) → all ≡ stands s (take (n - (i + 1)) (drop (i + 1) row))
-  unfolding stands
-  among-on t l h e q z = e ∙ ap (stands s) (left-part l h) ∙ simp (ne-eqb s (getD row i 0) (λ y. z (y ∙ sym q)), stands)
-
-  pub among-none : n ≤ i → all ≡ stands s (take (n - i) (drop i row)) → false ≡ all
-  unfolding stands
-  among-none l e = let z : n - i ≡ 0 = omega arith in sym (e ∙ ap (λ (k : ℕ). stands s (take k (drop i row))) z)
 
 -- ---- the lowest step that lacks a variable
 

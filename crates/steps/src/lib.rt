@@ -3,8 +3,7 @@ ghost use mathlib.Core.Path.{_≡_};
 ghost use mathlib.Core.List.{List};
 ghost use Prim.Native.Nat.{ℕ, _+_, _/_, _%_, _^_, _<_, _≤_};
 ghost use lib.Dec.{eqb};
-ghost use lib.ListN.{length, take, getD, set};
-ghost use Rattle.lists.specs.Lists.{stands};
+ghost use lib.ListN.{length, getD, set};
 ghost use Rattle.sets.specs.Sets.{bit};
 ghost use Rattle.logic.specs.Decks.{Equation, base};
 ghost use Rattle.evaluator.specs.Pending.{All, tops};
@@ -129,21 +128,6 @@ pub fn mark_all<'a>(
         at = number_at(ends, i);
         i += 1;
     }
-}
-
-// Whether s is among the first n states of the row.
-pub fn is_among(row: &[u64], n: usize, s: u64) -> bool
-    requires { ⌜ n ≤ length (now row) ⌝ }
-    ensures { λ r. ⌜ r ≡ stands s (take n (now (row .entry))) ⌝ }
-{
-    let mut i = 0;
-    while i < n {
-        if s == decks::state_at(row, i) {
-            return true;
-        }
-        i += 1;
-    }
-    false
 }
 
 // The lowest step whose mark lacks a variable; the number of steps where there is none.

@@ -6,10 +6,10 @@ use Rattle.claims.proofs.verdict_on.Statement.{statement}
 use Rattle.claims.proofs.verdict_on.Tie as tie
 use Rattle.claims.proofs.verdict_on.Reads as reads
 use Rattle.claims.proofs.verdict_on.Lts as lts
+use Rattle.decks.proofs.stands_in.Reads as stands-in-reads
 use Rattle.decks.proofs.state_at.Reads as state-at-reads
 use Rattle.evaluator.proofs.word_at.Reads as word-at-reads
 use Rattle.steps.proofs.first_lacking.Reads as first-lacking-reads
-use Rattle.steps.proofs.is_among.Reads as is-among-reads
 use Rattle.steps.proofs.mark_all.Reads as mark-all-reads
 use Rattle.truths.proofs.evaluate.Reads as evaluate-reads
 
@@ -18,8 +18,8 @@ state-at-requires : tie.Need-state-at-requires
 state-at-requires c κs = search needs
 
 -- src/lib.rt:25:9
-is-among-requires : tie.Need-is-among-requires
-is-among-requires c κs = search (needs, laws.initials-within)
+stands-in-requires : tie.Need-stands-in-requires
+stands-in-requires c κs = search (needs, laws.initials-within)
 
 -- src/lib.rt:26:9
 returns : tie.Need-returns
@@ -47,7 +47,7 @@ same-length-2 c = search needs
 returns-2 : tie.Need-returns-2
 returns-2 c D e ok =
     let pre = c .before .before .before .before .before .before .before .before .before .before .before .before .before .before .before .before .before .before .before .before .before .before .before .before .before .before .pre in
-    laws.no-step _ D e ok _ _ (pre .1) _ _ (pre .3) (pre .5) (c .before .before .before .before .before .before .before .mark-all .ensures .1 _ (laws.equations-given _ D e ok)) _ (c .before .first-lacking .ensures) _ _ (c .before .before .before .before .before .before .before .before .before .before .before .before .before .before .before .before .before .before .before .before .before .before .state-at .ensures) (c .before .before .before .before .before .before .before .before .before .before .before .before .before .before .before .before .before .before .is-among .ensures) (c .before .before .before .before .before .before .before .before .before .before .before .before .before .before .before .before .before .if1 .left) (c .if2 .taken)
+    laws.no-step _ D e ok _ _ (pre .1) _ _ (pre .3) (pre .5) (c .before .before .before .before .before .before .before .mark-all .ensures .1 _ (laws.equations-given _ D e ok)) _ (c .before .first-lacking .ensures) _ _ (c .before .before .before .before .before .before .before .before .before .before .before .before .before .before .before .before .before .before .before .before .before .before .state-at .ensures) (c .before .before .before .before .before .before .before .before .before .before .before .before .before .before .before .before .before .before .stands-in .ensures) (c .before .before .before .before .before .before .before .before .before .before .before .before .before .before .before .before .before .if1 .left) (c .if2 .taken)
 
 -- src/lib.rt:34:5
 evaluate-requires : tie.Need-evaluate-requires
@@ -75,7 +75,7 @@ returns-3 : tie.Need-returns-3
 returns-3 c D e ok =
     let pre = c .before .before .before .before .before .before .before .before .before .before .before .before .before .before .before .before .before .before .before .before .before .before .before .before .before .before .before .before .before .before .before .before .before .before .before .before .pre in
     let same = c .before .before .before .before .before .before .before .before .before .before .before .before .before .before .before .before .before .mark-all .ensures .0 in
-    laws.holding _ D e ok _ _ (pre .1) _ _ (pre .3) (pre .5) (c .before .before .before .before .before .before .before .before .before .before .before .before .before .before .before .before .before .mark-all .ensures .1 _ (laws.equations-given _ D e ok)) _ (c .before .before .before .before .before .before .before .before .before .before .before .first-lacking .ensures) _ _ (c .before .before .before .before .before .before .before .before .before .before .before .before .before .before .before .before .before .before .before .before .before .before .before .before .before .before .before .before .before .before .before .before .state-at .ensures) (c .before .before .before .before .before .before .before .before .before .before .before .before .before .before .before .before .before .before .before .before .before .before .before .before .before .before .before .before .is-among .ensures) (c .before .before .before .before .before .before .before .before .before .before .before .before .before .before .before .before .before .before .before .before .before .before .before .before .before .before .before .if1 .left) (c .before .before .before .before .before .before .before .before .before .before .if2 .left) _ _ (ap length same ∙ pre .4) (c .before .before .before .before .before .evaluate .ensures) _ (c .before .word-at .ensures) (c .if3 .taken)
+    laws.holding _ D e ok _ _ (pre .1) _ _ (pre .3) (pre .5) (c .before .before .before .before .before .before .before .before .before .before .before .before .before .before .before .before .before .mark-all .ensures .1 _ (laws.equations-given _ D e ok)) _ (c .before .before .before .before .before .before .before .before .before .before .before .first-lacking .ensures) _ _ (c .before .before .before .before .before .before .before .before .before .before .before .before .before .before .before .before .before .before .before .before .before .before .before .before .before .before .before .before .before .before .before .before .state-at .ensures) (c .before .before .before .before .before .before .before .before .before .before .before .before .before .before .before .before .before .before .before .before .before .before .before .before .before .before .before .before .stands-in .ensures) (c .before .before .before .before .before .before .before .before .before .before .before .before .before .before .before .before .before .before .before .before .before .before .before .before .before .before .before .if1 .left) (c .before .before .before .before .before .before .before .before .before .before .if2 .left) _ _ (ap length same ∙ pre .4) (c .before .before .before .before .before .evaluate .ensures) _ (c .before .word-at .ensures) (c .if3 .taken)
 
 -- src/lib.rt:13:1
 same-length-5 : tie.Need-same-length-5
@@ -90,14 +90,14 @@ returns-4 : tie.Need-returns-4
 returns-4 c D e ok =
     let pre = c .before .before .before .before .before .before .before .before .before .before .before .before .before .before .before .before .before .before .before .before .before .before .before .before .before .before .before .before .before .before .before .before .before .before .before .before .pre in
     let same = c .before .before .before .before .before .before .before .before .before .before .before .before .before .before .before .before .before .mark-all .ensures .0 in
-    laws.breaking _ D e ok _ _ (pre .1) _ _ (pre .3) (pre .5) (c .before .before .before .before .before .before .before .before .before .before .before .before .before .before .before .before .before .mark-all .ensures .1 _ (laws.equations-given _ D e ok)) _ (c .before .before .before .before .before .before .before .before .before .before .before .first-lacking .ensures) _ _ (c .before .before .before .before .before .before .before .before .before .before .before .before .before .before .before .before .before .before .before .before .before .before .before .before .before .before .before .before .before .before .before .before .state-at .ensures) (c .before .before .before .before .before .before .before .before .before .before .before .before .before .before .before .before .before .before .before .before .before .before .before .before .before .before .before .before .is-among .ensures) (c .before .before .before .before .before .before .before .before .before .before .before .before .before .before .before .before .before .before .before .before .before .before .before .before .before .before .before .if1 .left) (c .before .before .before .before .before .before .before .before .before .before .if2 .left) _ _ (ap length same ∙ pre .4) (c .before .before .before .before .before .evaluate .ensures) _ (c .before .word-at .ensures) (c .if3 .left)
+    laws.breaking _ D e ok _ _ (pre .1) _ _ (pre .3) (pre .5) (c .before .before .before .before .before .before .before .before .before .before .before .before .before .before .before .before .before .mark-all .ensures .1 _ (laws.equations-given _ D e ok)) _ (c .before .before .before .before .before .before .before .before .before .before .before .first-lacking .ensures) _ _ (c .before .before .before .before .before .before .before .before .before .before .before .before .before .before .before .before .before .before .before .before .before .before .before .before .before .before .before .before .before .before .before .before .state-at .ensures) (c .before .before .before .before .before .before .before .before .before .before .before .before .before .before .before .before .before .before .before .before .before .before .before .before .before .before .before .before .stands-in .ensures) (c .before .before .before .before .before .before .before .before .before .before .before .before .before .before .before .before .before .before .before .before .before .before .before .before .before .before .before .if1 .left) (c .before .before .before .before .before .before .before .before .before .before .if2 .left) _ _ (ap length same ∙ pre .4) (c .before .before .before .before .before .evaluate .ensures) _ (c .before .word-at .ensures) (c .if3 .left)
 
 pub verdict-on-spec : {M : Type 1} → statement M
 verdict-on-spec =
     tie.close
     (tie.spec
     state-at-requires
-    is-among-requires
+    stands-in-requires
     returns
     mark-all-requires
     first-lacking-requires
