@@ -1,14 +1,12 @@
 -- Laws of the statement that is due.
 use mathlib.Core.Path.{_≡_, refl, sym, ap, _∙_, subst}
-use mathlib.Core.Bool.{Bool, true, false, not}
+use mathlib.Core.Bool.{true, false, not}
 use mathlib.Core.List.{List, [], _∷_}
-use Prim.Native.Nat.{ℕ, _+_, _<_, _≤_}
+use Prim.Native.Nat.{ℕ}
 use native.Mathlib.Omega.{arith}
-use lib.ListN.{length}
 use Rattle.lists.specs.Texts.{bytes}
-use Rattle.decks.specs.declared.Answer.{Answer}
 use Rattle.decks.specs.declared.Answer.the-variants.{NotDue}
-use Rattle.decks.specs.Answers.{Outcome, Got, Refused}
+use Rattle.decks.specs.Answers.{Outcome, Refused}
 use Rattle.cards.specs.Typed.{Typed}
 use Rattle.cards.specs.Read.{Due, DueVars, DueInit, DueAny, DueEquation, DueEnd, DueNone, Sofar, initStatement, equationStatement, propStatement, equationOrProp, onWord, dueStatement}
 use Rattle.grammar.specs.Ahead.{ahead}
@@ -16,7 +14,7 @@ use Rattle.grammar.specs.Readers.{Words}
 use Rattle.grammar.specs.declared.Word.{Word}
 use Rattle.cardlines.specs.declared.Held.{Held}
 use Rattle.cardlines.specs.declared.StatementRead.{StatementRead}
-use Rattle.cardlines.specs.Held.{dueNumber, heldOf, Holds, Came, refusedAs, InitWord}
+use Rattle.cardlines.specs.Held.{dueNumber, Holds, Came, refusedAs, InitWord}
 use Rattle.cardlines.proofs.Laws.{not-true, not-false, came-refused, words-none, words-some, on-none, on-some}
 
 either-is : (n : ℕ) (cs : List ℕ) (t : Typed) → equationOrProp n cs t ≡ onWord (86 ∷ []) cs (λ rs. equationStatement n rs t) (onWord (80 ∷ 82 ∷ 79 ∷ 80 ∷ []) cs (λ rs. propStatement n rs t) (Refused (NotDue n)))

@@ -1,25 +1,22 @@
 -- Laws of equations and of the property.
 use mathlib.Core.Path.{_≡_, refl, sym, ap, ap₂, _∙_, subst}
-use mathlib.Core.Bool.{Bool, true, false, not}
+use mathlib.Core.Bool.{true, false, not}
 use mathlib.Core.List.{List, [], _∷_, _++_}
-use mathlib.Core.Option.{Option, none, some}
+use mathlib.Core.Option.{none, some}
 use Prim.Native.Nat.{ℕ, _+_, _-_, _<_, _≤_}
 use native.Mathlib.Omega.{arith}
-use lib.ListN.{length, take, drop, set, length-append}
+use lib.ListN.{length, take, set, length-append}
 use borrow.Author.Tests.{lt-ltb, le-ltb}
-use Rattle.lists.specs.Lists.{chosen, padded, splice, part}
+use Rattle.lists.specs.Lists.{padded, splice, part}
 use Rattle.lists.specs.Texts.{bytes}
 use Rattle.sets.specs.Sets.{has, inside}
 use Rattle.logic.specs.Expressions.{Expr, nodes, written, temporal, code}
 use Rattle.logic.specs.Decks.{Equation, totalNodes}
 use Rattle.logic.proofs.Codes.{length-code}
-use Rattle.decks.specs.declared.Answer.{Answer}
 use Rattle.decks.specs.declared.Answer.the-variants.{Fine, NotDue, Outside, Temporal, ManyEquations, ManyNodes}
-use Rattle.decks.specs.Answers.{Outcome, Got, Refused, refuse, afterwards}
-use Rattle.decks.specs.Stored.{HoldsEquations}
-use Rattle.cards.specs.Grammar.{Number, NoNumber, readNumber}
+use Rattle.decks.specs.Answers.{Outcome, Got, Refused, afterwards}
 use Rattle.cards.specs.Typed.{Typed, firstVars}
-use Rattle.cards.specs.Read.{behind, Due, DueEquation, DueEnd, Sofar, wholeExpr, withEquation, equationStatement, propStatement}
+use Rattle.cards.specs.Read.{behind, DueEquation, DueEnd, Sofar, wholeExpr, withEquation, equationStatement, propStatement}
 use Rattle.grammar.specs.Ahead.{ahead}
 use Rattle.grammar.specs.Readers.{Numbers, Words}
 use Rattle.grammar.specs.declared.Digits.{Digits}
@@ -29,7 +26,7 @@ use Rattle.decks.proofs.Stored.{total-more, equations-more}
 use Rattle.cardlines.specs.declared.Held.{Held}
 use Rattle.cardlines.specs.declared.StatementRead.{StatementRead}
 use Rattle.cardlines.specs.declared.ExprRead.{ExprRead}
-use Rattle.cardlines.specs.Held.{heldOf, Small, Holds, Came, refusedAs, ExprCame, WithCame}
+use Rattle.cardlines.specs.Held.{Small, Holds, Came, refusedAs, ExprCame, WithCame}
 use Rattle.cardlines.proofs.Laws.{not-true, not-false, came-refused, words-none, words-some, numbers-none, numbers-some}
 use Rattle.cardlines.proofs.Written.{has-first, has-not-first}
 

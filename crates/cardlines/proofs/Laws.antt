@@ -1,26 +1,21 @@
 -- Laws of the statements of a deck of cards.
 use mathlib.Core.Path.{_≡_, refl, sym, ap, ap₂, _∙_, subst}
-use mathlib.Core.Logic.{by-cases}
-use mathlib.Core.Bool.{Bool, true, false, not, _&&_}
+use mathlib.Core.Bool.{Bool, true, false, not}
 use mathlib.Core.List.{List, [], _∷_, _++_}
 use mathlib.Core.Option.{Option, none, some}
-use Prim.Native.Nat.{ℕ, zero, suc, _+_, _-_, _^_, _<_, _≤_}
+use Prim.Native.Nat.{ℕ, _+_, _<_, _≤_}
 use native.Mathlib.Omega.{arith}
-use native.Mathlib.Decide.{decLt}
-use lib.Dec.{ltb, leb, eqb}
-use lib.ListN.{length, take, drop, set, length-append}
-use lib.Seq.{take-append-seam}
-use borrow.Author.Tests.{lt-ltb, le-ltb, eq-eqb, ne-eqb}
-use Rattle.lists.specs.Lists.{chosen, stands, firsts, padded, splice}
+use lib.Dec.{eqb}
+use lib.ListN.{length, take, set, length-append}
+use borrow.Author.Tests.{lt-ltb, le-ltb}
+use Rattle.lists.specs.Lists.{chosen, stands, firsts, padded}
 use Rattle.lists.specs.Texts.{bytes}
 use Rattle.lists.proofs.Laws.{take-padded, padded-snoc, stands-firsts, true-stands, false-stands, firsts-new, firsts-again, length-firsts}
-use Rattle.logic.specs.Expressions.{Expr, nodes, written, temporal, code}
-use Rattle.logic.specs.Decks.{Equation, base, totalNodes}
 use Rattle.decks.specs.declared.Answer.{Answer}
-use Rattle.decks.specs.declared.Answer.the-variants.{Fine, NotDue, Outside, Temporal, TooDeep, ManyInitials, ManyEquations, ManyNodes}
-use Rattle.decks.specs.Answers.{Outcome, Got, Refused, refuse, afterwards}
-use Rattle.cards.specs.Grammar.{Counted, Number, NoNumber, readNumber}
-use Rattle.cards.specs.Typed.{Typed, firstVars}
+use Rattle.decks.specs.declared.Answer.the-variants.{Fine, NotDue, ManyInitials}
+use Rattle.decks.specs.Answers.{Outcome, Got, Refused}
+use Rattle.cards.specs.Grammar.{Number, NoNumber, readNumber}
+use Rattle.cards.specs.Typed.{Typed}
 use Rattle.cards.specs.Read.{behind, Due, DueVars, DueInit, DueAny, DueEquation, DueEnd, DueNone, Sofar, wholeNumber, varsStatement, readBinary, initStatement, endStatement, onWord, dueStatement}
 use Rattle.grammar.specs.Ahead.{ahead}
 use Rattle.grammar.specs.Readers.{Numbers, Words, Binaries}
@@ -29,7 +24,7 @@ use Rattle.grammar.specs.declared.Word.{Word}
 use Rattle.grammar.specs.declared.Binary.{Binary}
 use Rattle.cardlines.specs.declared.Held.{Held}
 use Rattle.cardlines.specs.declared.StatementRead.{StatementRead}
-use Rattle.cardlines.specs.Held.{dueNumber, heldOf, Small, Holds, PropertyHeld, Came, refusedAs, none?}
+use Rattle.cardlines.specs.Held.{dueNumber, Small, Holds, PropertyHeld, Came, refusedAs, none?}
 
 pub not-true : (b : Bool) → not b ≡ true → b ≡ false
 not-true true e = sym e

@@ -1,27 +1,25 @@
 -- Laws of the rows that statements are read from and stored in.
-use mathlib.Core.Path.{_≡_, refl, sym, ap, ap₂, _∙_, subst}
+use mathlib.Core.Path.{_≡_, refl, sym, ap, ap₂, _∙_}
 use mathlib.Core.Logic.{by-cases}
-use mathlib.Core.Bool.{Bool, true, false, not, _&&_}
+use mathlib.Core.Bool.{Bool, true, false}
 use mathlib.Core.List.{List, [], _∷_, _++_, append-nil}
 use Prim.Native.Nat.{ℕ, zero, suc, _+_, _-_, _<_, _≤_}
 use native.Mathlib.Omega.{arith}
 use native.Mathlib.Numerals.{add-one}
 use native.Mathlib.Decide.{decLt}
-use lib.Dec.{ltb, leb, eqb}
-use lib.ListN.{length, take, drop, getD, set, replicate, length-append, length-replicate, length-take, length-set, drop-of-length-le, List·getD-eq-default}
-use lib.Seq.{take-suc, take-suc-set, take-all, drop-cons, getD-take, length-take-le}
+use lib.Dec.{leb}
+use lib.ListN.{length, take, drop, getD, replicate, length-append, length-replicate, drop-of-length-le}
+use lib.Seq.{take-all, drop-cons, getD-take, length-take-le}
 use borrow.Author.Tests.{lt-ltb, le-ltb, le-leb, lt-leb, eq-eqb, ne-eqb}
-use Rattle.lists.specs.Lists.{stands, firsts, padded, splice, part}
+use Rattle.lists.specs.Lists.{firsts, padded, splice, part}
 use Rattle.lists.proofs.Laws.{take-filled, splice-splice}
 use Rattle.logic.specs.Decks.{totalNodes}
 use Rattle.terms.specs.Nodes.{variable?}
-use Rattle.decks.specs.declared.Answer.{Answer}
 use Rattle.decks.specs.declared.Answer.the-variants.{NotDue, TooDeep}
 use Rattle.cards.specs.Read.{begun}
 use Rattle.grammar.specs.Ahead.{ahead, Skips}
 use Rattle.grammar.proofs.Ahead.{ahead-end, ahead-ink}
 use Rattle.phrases.specs.Phrases.{refusalOf}
-use Rattle.cardlines.specs.declared.Held.{Held}
 use Rattle.cardlines.specs.Held.{heldOf, none?, outside?, withinAll}
 
 pub nothing-held : record { due = 0; count = 0; typed = 0; initials = 0; equations = 0; used = 0; size = 0 } ≡ heldOf begun 0

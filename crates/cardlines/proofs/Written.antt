@@ -1,21 +1,21 @@
 -- Laws of the expression just read: its variables, its operators, and its nodes in the scratch row.
-use mathlib.Core.Path.{_≡_, refl, sym, ap, ap₂, _∙_, subst}
+use mathlib.Core.Path.{_≡_, refl, sym, ap, ap₂, _∙_}
 use mathlib.Core.Logic.{by-cases}
 use mathlib.Core.Bool.{Bool, true, false, not, _&&_}
 use mathlib.Core.List.{List, [], _∷_, _++_}
-use Prim.Native.Nat.{ℕ, zero, suc, _+_, _-_, _<_, _≤_}
+use Prim.Native.Nat.{ℕ, _+_, _-_, _<_, _≤_}
 use native.Mathlib.Omega.{arith}
 use native.Mathlib.Decide.{decLt}
 use lib.Dec.{ltb}
 use lib.ListN.{length, take, drop}
 use lib.Seq.{take-append-seam}
 use borrow.Author.Tests.{lt-ltb, le-ltb}
-use Rattle.lists.specs.Lists.{splice, part}
+use Rattle.lists.specs.Lists.{part}
 use Rattle.sets.specs.Sets.{_∋_, has, inside, only, union}
-use Rattle.sets.proofs.Laws.{inside-true, inside-false, true-inside, false-inside, union-least, union-left, union-right, subset-trans, bit-only, only-least, bit-zero, has-true, has-false, only-bit}
+use Rattle.sets.proofs.Laws.{inside-true, inside-false, true-inside, false-inside, union-least, union-left, union-right, subset-trans, bit-only, only-least, bit-zero, has-true, has-false}
 use Rattle.logic.specs.Expressions.{Op1, Not, Next, Future, Always, Op2, And, Or, Until, Weak, Expr, Const, Var, One, Two, nodes, written, temporal, code, constNode, node1, node2, Narrow}
 use Rattle.logic.proofs.Codes.{below-more, length-code}
-use Rattle.terms.specs.Nodes.{variable?, someTemporal}
+use Rattle.terms.specs.Nodes.{someTemporal}
 use Rattle.terms.proofs.Trees.{temporal-code}
 use Rattle.decks.specs.declared.Answer.{Answer}
 use Rattle.decks.specs.declared.Answer.the-variants.{Fine}
@@ -28,7 +28,6 @@ use Rattle.grammar.specs.Ahead.{ahead}
 use Rattle.phrases.specs.declared.Phrase.{Phrase}
 use Rattle.phrases.specs.Phrases.{refusalOf, TellsWhole, Fills}
 use lib.Pow.{pow-lt}
-use Rattle.cardlines.specs.declared.ExprRead.{ExprRead}
 use Rattle.cardlines.specs.Held.{outside?, withinAll, ExprCame}
 
 -- ---- variables among the first

@@ -1,6 +1,6 @@
 -- What the reader of cards holds of the statements so far.
 use mathlib.Core.Path.{_≡_}
-use mathlib.Core.Bool.{Bool, true, false, not, _&&_}
+use mathlib.Core.Bool.{Bool, true, false}
 use mathlib.Core.List.{List, [], _∷_}
 use Prim.Native.Nat.{ℕ, _≤_}
 use lib.Dec.{ltb}
@@ -9,7 +9,7 @@ use Rattle.lists.specs.Lists.{padded, firsts}
 use Rattle.lists.specs.Texts.{bytes}
 use Rattle.sets.specs.Sets.{inside}
 use Rattle.logic.specs.Expressions.{Expr, nodes, written, temporal, code}
-use Rattle.logic.specs.Decks.{Equation, base, totalNodes}
+use Rattle.logic.specs.Decks.{base, totalNodes}
 use Rattle.terms.specs.Nodes.{variable?}
 use Rattle.decks.specs.declared.Answer.{Answer}
 use Rattle.decks.specs.declared.Answer.the-variants.{Fine}

@@ -1,13 +1,12 @@
 // The statements of a deck of cards, each judged and then stored.
 ghost use mathlib.Core.Path.{_≡_};
 ghost use mathlib.Core.List.{List};
-ghost use Prim.Native.Nat.{ℕ, _+_, _-_, _<_, _≤_};
-ghost use lib.ListN.{length, take, getD, set};
-ghost use Rattle.lists.specs.Lists.{stands, padded};
+ghost use Prim.Native.Nat.{ℕ, _≤_};
+ghost use lib.ListN.{length, take};
+ghost use Rattle.lists.specs.Lists.{padded};
 ghost use Rattle.logic.specs.Decks.{base};
 ghost use Rattle.decks.specs.declared.Answer.the-variants.{NotDue};
-ghost use Rattle.decks.specs.Answers.{Refused};
-ghost use Rattle.cards.specs.Read.{Sofar, begun, wholeExpr, dueStatement, equationOrProp, equationStatement, propStatement, initStatement, withEquation};
+ghost use Rattle.cards.specs.Read.{Sofar, begun, wholeExpr, dueStatement, equationOrProp, equationStatement, propStatement, initStatement};
 ghost use Rattle.grammar.specs.Ahead.{ahead};
 ghost use Rattle.phrases.specs.Phrases.{refusalOf};
 ghost use Rattle.cardlines.specs.Held.{heldOf, Small, Lengths, Holds, Came, refusedAs, none?, outside?, withinAll, ExprCame, WithCame, InitWord};
@@ -103,12 +102,6 @@ fn at_end(chars: &[u8], at: usize, end: usize) -> bool
     end <= place
 }
 
-fn wide(n: u16) -> usize
-    ensures { λ r. ⌜ r ≡ n ⌝ }
-{
-    n as usize
-}
-
 // Whether the variables among the first nodes of a row are all below a number.
 fn all_within(nodes: &[u16], end: usize, count: usize) -> bool
     requires { ⌜ end ≤ length (now nodes) ⌝ }
@@ -129,7 +122,7 @@ fn all_within(nodes: &[u16], end: usize, count: usize) -> bool
 fn outside(node: u16, count: usize) -> bool
     ensures { λ r. ⌜ r ≡ outside? count node ⌝ }
 {
-    if wide(node) < count {
+    if decks::wide(node) < count {
         return false;
     }
     terms::is_variable(node)
@@ -151,7 +144,7 @@ fn vars_statement(chars: &[u8], end: usize, n: u64, h: Held) -> StatementRead
     if !at_end(chars, v.next, end) {
         return not_due(n);
     }
-    let count = wide(v.value);
+    let count = decks::wide(v.value);
     if decks::VARIABLES < count {
         return not_due(n);
     }
@@ -305,7 +298,7 @@ fn with_equation(
     requires { ⌜ Small h × (e .nodes ≤ length (now scratch)) × (length (now scratch) ≤ 1320) × Lengths (now lefts) (now ends) (now nodes) ⌝ }
     ensures { λ r. ⌜ Small (r .held) × ((s : Sofar) (inits property : List ℕ) → Holds s h inits (now (lefts .entry)) (now (ends .entry)) (now (nodes .entry)) property → WithCame n (s .typed) left e (now (scratch .entry)) r inits (now (lefts .exit)) (now (ends .exit)) (now (nodes .exit)) property) ⌝ }
 {
-    if h.count <= wide(left) {
+    if h.count <= decks::wide(left) {
         return stopped(decks::Answer::Outside(1, n));
     }
     if !e.within {

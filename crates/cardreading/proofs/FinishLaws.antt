@@ -11,13 +11,15 @@ use lib.Pow.{pow-pos, shl-exact}
 use Rattle.lists.specs.Lists.{Each, keep}
 use Rattle.lists.proofs.Laws.{each-map, each-append, each-keep, take-padded}
 use Rattle.sets.specs.Sets.{without, lowestOf}
-use Rattle.logic.specs.Decks.{Equation, base}
+use Rattle.logic.specs.Decks.{Equation, Deck, base}
+use Rattle.decks.specs.declared.Answer.{Answer}
 use Rattle.decks.specs.declared.Answer.the-variants.{Fine, NoEquation}
 use Rattle.decks.specs.declared.DeckRead.{DeckRead}
-use Rattle.decks.specs.Answers.{Refused}
+use Rattle.decks.specs.Answers.{Outcome, Refused}
 use Rattle.decks.specs.Readings.{leftSet, complete}
-use Rattle.decks.specs.Stored.{leftsOf, HoldsEquations, deckRead}
+use Rattle.decks.specs.Stored.{leftsOf, HoldsEquations, deckRead, DeckCame}
 use Rattle.decks.proofs.Complete.{lacking, complete-none, complete-some}
+use Rattle.decks.proofs.Stored.{refused-came}
 use Rattle.cards.specs.Typed.{firstVars, risingFrom, deckOf}
 use Rattle.cards.specs.Read.{Due, Sofar}
 use Rattle.cards.proofs.TypedLaws.{ofVariable, allowed-lefts}
@@ -115,12 +117,24 @@ module _ (held : Held) (inits lefts ends nodes′ property : List ℕ) where
       lacking-is : m ≡ lacking (deckOf (s .typed))
       lacking-is = missing-is ∙ ap₂ without deck-vars (covered-is (deckOf (s .typed) .equations) (deck-lefts s r))
 
-    pub lacks-one : (v : ℕ) (x : DeckRead) → (m ≡ 0 → ⊥) → v ≡ lowestOf m → x ≡ deckRead (Refused (NoEquation v)) → (s : Sofar) → Typing s → x ≡ deckRead (complete (deckOf (s .typed)))
-    lacks-one v x h l q s r = q ∙ rw (complete-some (deckOf (s .typed)) m (lacking-is s r) h, l) refl
+    pub lacks-one : (v : ℕ) (x : DeckRead) → (m ≡ 0 → ⊥) → v ≡ lowestOf m → x ≡ deckRead (Refused (NoEquation v)) → (s : Sofar) → Typing s → DeckCame (complete (deckOf (s .typed))) x inits lefts ends nodes′ property
+    lacks-one v x h l q s r = refused-came (complete (deckOf (s .typed))) (NoEquation v) x inits lefts ends nodes′ property q (complete-some (deckOf (s .typed)) m (lacking-is s r) h ∙ ap (λ (y : ℕ). Refused (NoEquation y)) (sym l))
 
-    pub lacks-none : m ≡ 0 → (s : Sofar) → Typing s
-        → record { answer = Fine; deck = record { vars = vars; inits = inits; initials = held .initials; lefts = lefts; ends = ends; equations = held .equations; nodes = nodes′; property = property; size = held .size } } ≡ deckRead (complete (deckOf (s .typed)))
+    -- What is returned of a deck that lacks none.
+    abbrev found : DeckRead
+    found = record { answer = Fine; vars = vars; initials = held .initials; equations = held .equations; size = held .size }
+
+    pub lacks-none : m ≡ 0 → (s : Sofar) → Typing s → DeckCame (complete (deckOf (s .typed))) found inits lefts ends nodes′ property
     unfolding deckOf
     lacks-none h s r =
         let q = r .equations-are in
-        rw (complete-none (deckOf (s .typed)) m (lacking-is s r) h, deck-vars s r, r .inits-are, ap (λ (x : Held). x .initials) (r .held-is), q .lefts-are, q .ends-are, q .count-is, q .nodes-are, r .property-is .1, r .property-is .0) refl
+        subst (λ (o : Outcome Deck). DeckCame o found inits lefts ends nodes′ property) (sym (complete-none (deckOf (s .typed)) m (lacking-is s r) h))
+        (record {
+          read-is = rw (deck-vars s r, ap (λ (x : Held). x .initials) (r .held-is), q .count-is, r .property-is .0) refl;
+          rows-hold =
+              record {
+                inits-are = r .inits-are;
+                equations-are = subst (HoldsEquations (deckOf (s .typed) .equations) lefts ends nodes′) (q .count-is) q;
+                property-is = r .property-is .1;
+              };
+        })

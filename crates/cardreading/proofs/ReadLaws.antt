@@ -8,14 +8,15 @@ use lib.ListN.{length, drop, replicate, length-replicate}
 use denote.Enum.Declared.{tagOf}
 use types.Run.{OneOf, miss}
 use borrow.Author.Tests.{lt-ltb, le-ltb, not-true, not-false}
-use Rattle.logic.specs.Decks.{Equation}
+use Rattle.logic.specs.Decks.{Equation, Deck}
 use Rattle.decks.specs.declared.Answer.{Answer}
 use Rattle.decks.specs.declared.Answer.the-variants.{Fine, TooLong, NotDue}
 use Rattle.decks.specs.declared.DeckRead.{DeckRead}
 use Rattle.decks.specs.Answers.{Outcome, Got, Refused, afterwards}
 use Rattle.decks.specs.Readings.{walk, complete}
-use Rattle.decks.specs.Stored.{HoldsEquations, deckRead}
+use Rattle.decks.specs.Stored.{HoldsEquations, Blank, deckRead, DeckCame}
 use Rattle.decks.proofs.Answer.{the-type as answers}
+use Rattle.decks.proofs.Stored.{refused-came}
 use Rattle.cards.specs.Card.{cardsOf, inForm}
 use Rattle.cards.specs.Statement.{statementsOf}
 use Rattle.cards.specs.Typed.{risingFrom, deckOf}
@@ -32,16 +33,16 @@ use Rattle.cardlines.specs.Held.{dueNumber, Holds, Came}
 use Rattle.cardreading.specs.Finished.{Ready, Sorted, Empty}
 use Rattle.cardreading.proofs.FinishLaws.{sorted}
 
--- Arrays of zeros before the first statement.
-pub zeros-empty : Empty (replicate 64 0) (replicate 1320 0) (replicate 256 0) (replicate 256 0) (replicate 2048 0) (replicate 128 0)
-zeros-empty =
+-- Rows of zeros before the first statement.
+pub blank-empty : (inits lefts ends nodes property : List ℕ) → Blank inits lefts ends nodes property → Empty inits (replicate 1320 0) lefts ends nodes property
+blank-empty inits lefts ends nodes property b =
     record {
-      inits-zero = refl;
+      inits-zero = b .inits-zero;
       scratch-long = length-replicate {A = ℕ} 1320 0;
-      lefts-zero = refl;
-      ends-zero = refl;
-      nodes-zero = refl;
-      property-long = length-replicate {A = ℕ} 128 0;
+      lefts-zero = b .lefts-zero;
+      ends-zero = b .ends-zero;
+      nodes-zero = b .nodes-zero;
+      property-long = ap (λ (l : List ℕ). length l) (b .property-zero) ∙ length-replicate {A = ℕ} 128 0;
     }
 
 -- ---- behind the last statement
@@ -110,20 +111,21 @@ module _ (text : List ℕ) (r : StatementRead) (inits lefts ends nodes property 
   ready-sorted tl te tn c f d o = let (s, e, h) = all-ready c f d in (s, sorted s (r .held) inits lefts ends nodes property h tl te tn o)
 
   module _ (x : DeckRead) where
-    pub statement-refused : AllCame → not (r .fine) ≡ true → x ≡ deckRead (Refused (r .answer)) → x ≡ deckRead (afterwards (statementsRead text) cardsEnd)
-    statement-refused c f q = q ∙ ap (λ (o : Outcome Sofar). deckRead (afterwards o cardsEnd)) (sym (all-refused c (not-true (r .fine) f)))
+    pub statement-refused : AllCame → not (r .fine) ≡ true → x ≡ deckRead (Refused (r .answer)) → DeckCame (afterwards (statementsRead text) cardsEnd) x inits lefts ends nodes property
+    statement-refused c f q = refused-came (afterwards (statementsRead text) cardsEnd) (r .answer) x inits lefts ends nodes property q (ap (λ (o : Outcome Sofar). afterwards o cardsEnd) (all-refused c (not-true (r .fine) f)))
 
-    pub statement-missing : AllCame → not (r .fine) ≡ false → (r .held .due ≡ 5 → ⊥) → x ≡ deckRead (Refused (NotDue 0)) → x ≡ deckRead (afterwards (statementsRead text) cardsEnd)
+    pub statement-missing : AllCame → not (r .fine) ≡ false → (r .held .due ≡ 5 → ⊥) → x ≡ deckRead (Refused (NotDue 0)) → DeckCame (afterwards (statementsRead text) cardsEnd) x inits lefts ends nodes property
     statement-missing c f d q =
         let (s, e, h) = all-held c (not-false (r .fine) f) in
-        q
-        ∙ ap deckRead (sym (end-missing s (s .due) refl (λ n. d (ap (λ (y : Held). y .due) (h .held-is) ∙ n))))
-        ∙ ap (λ (o : Outcome Sofar). deckRead (afterwards o cardsEnd)) (sym e)
+        refused-came (afterwards (statementsRead text) cardsEnd) (NotDue 0) x inits lefts ends nodes property q
+        (ap (λ (o : Outcome Sofar). afterwards o cardsEnd) e ∙ end-missing s (s .due) refl (λ n. d (ap (λ (y : Held). y .due) (h .held-is) ∙ n)))
 
-    pub deck-finished : (tl te tn : List ℕ) → AllCame → not (r .fine) ≡ false → r .held .due ≡ 5 → Sorts tl te tn → ((s : Sofar) → Sorted s (r .held) inits tl te tn property → x ≡ deckRead (complete (deckOf (s .typed)))) → x ≡ deckRead (afterwards (statementsRead text) cardsEnd)
+    pub deck-finished : (tl te tn : List ℕ) → AllCame → not (r .fine) ≡ false → r .held .due ≡ 5 → Sorts tl te tn → ((s : Sofar) → Sorted s (r .held) inits tl te tn property → DeckCame (complete (deckOf (s .typed))) x inits tl te tn property)
+        → DeckCame (afterwards (statementsRead text) cardsEnd) x inits tl te tn property
     deck-finished tl te tn c f d o g =
         let (s, e, h) = all-ready c f d in
-        g s (sorted s (r .held) inits lefts ends nodes property h tl te tn o) ∙ ap deckRead (sym (end-complete s (h .ended))) ∙ ap (λ (o : Outcome Sofar). deckRead (afterwards o cardsEnd)) (sym e)
+        subst (λ (p : Outcome Deck). DeckCame p x inits tl te tn property) (sym (ap (λ (p : Outcome Sofar). afterwards p cardsEnd) e ∙ end-complete s (h .ended)))
+        (g s (sorted s (r .held) inits lefts ends nodes property h tl te tn o))
 
 -- ---- both passes
 
@@ -134,25 +136,24 @@ others = 1 ∷ 2 ∷ 3 ∷ 4 ∷ 5 ∷ 6 ∷ 7 ∷ 8 ∷ 9 ∷ 10 ∷ 11 ∷ 12 
 not-fine : (a : Answer) → OneOf others (tagOf answers a) → a ≡ Fine → ⊥
 not-fine a h e = miss others 0 tt (subst (λ (b : Answer). OneOf others (tagOf answers b)) e h)
 
-module _ (text : List ℕ) (x : DeckRead) where
-  pub too-long : 64800 < length text → x ≡ deckRead (Refused (TooLong 1)) → x ≡ deckRead (readCards text)
+module _ (text : List ℕ) (x : DeckRead) (inits lefts ends nodes property : List ℕ) where
+  pub too-long : 64800 < length text → x ≡ deckRead (Refused (TooLong 1)) → DeckCame (readCards text) x inits lefts ends nodes property
   unfolding readCards
-  too-long h q = let z : readCards text ≡ Refused (TooLong 1) = simp (lt-ltb 64800 (length text) h, readCards) in q ∙ ap deckRead (sym z)
+  too-long h q = refused-came (readCards text) (TooLong 1) x inits lefts ends nodes property q (simp (lt-ltb 64800 (length text) h, readCards))
 
   module _ (a : Answer) where
-    pub not-in-form : length text ≤ 64800 → a ≡ passed (inForm (cardsOf text)) → OneOf others (tagOf answers a) → x ≡ deckRead (Refused a) → x ≡ deckRead (readCards text)
+    pub not-in-form : length text ≤ 64800 → a ≡ passed (inForm (cardsOf text)) → OneOf others (tagOf answers a) → x ≡ deckRead (Refused a) → DeckCame (readCards text) x inits lefts ends nodes property
     unfolding readCards
     not-in-form h e n q =
         let w : inForm (cardsOf text) ≡ Refused a = passed-refused (cardsOf text) (λ i. not-fine a n (e ∙ i)) ∙ ap Refused (sym e) in
-        let z : readCards text ≡ Refused a = simp (le-ltb 64800 (length text) h, w, readCards) in
-        q ∙ ap deckRead (sym z)
+        refused-came (readCards text) a x inits lefts ends nodes property q (simp (le-ltb 64800 (length text) h, w, readCards))
 
-    pub in-form-read : length text ≤ 64800 → a ≡ passed (inForm (cardsOf text)) → a ≡ Fine → x ≡ deckRead (afterwards (statementsRead text) cardsEnd) → x ≡ deckRead (readCards text)
+    pub in-form-read : length text ≤ 64800 → a ≡ passed (inForm (cardsOf text)) → a ≡ Fine → DeckCame (afterwards (statementsRead text) cardsEnd) x inits lefts ends nodes property → DeckCame (readCards text) x inits lefts ends nodes property
     unfolding readCards
     in-form-read h e f q =
         let (o, w) = passed-fine (cardsOf text) (sym e ∙ f) in
         let z : readCards text ≡ afterwards (statementsRead text) cardsEnd = simp (le-ltb 64800 (length text) h, w, readCards) in
-        q ∙ ap deckRead (sym z)
+        subst (λ (p : Outcome Deck). DeckCame p x inits lefts ends nodes property) (sym z) q
 
 pub in-form : (text : List ℕ) (a : Answer) → a ≡ passed (inForm (cardsOf text)) → a ≡ Fine → Formed 1 (cardsOf (drop 0 text))
 in-form text a e f = let (o, w) = passed-fine (cardsOf text) (sym e ∙ f) in formed-whole text o w

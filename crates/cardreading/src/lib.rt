@@ -7,7 +7,7 @@ ghost use Rattle.logic.specs.Decks.{base};
 ghost use Rattle.decks.specs.declared.Answer.the-variants.{Fine};
 ghost use Rattle.decks.specs.Answers.{afterwards};
 ghost use Rattle.decks.specs.Readings.{walk, complete};
-ghost use Rattle.decks.specs.Stored.{deckRead};
+ghost use Rattle.decks.specs.Stored.{Blank, DeckCame};
 ghost use Rattle.cards.specs.Card.{cardsOf};
 ghost use Rattle.cards.specs.Statement.{statementsOf};
 ghost use Rattle.cards.specs.Typed.{firstVars, deckOf};
@@ -153,58 +153,45 @@ fn went(held: cardlines::Held) -> cardlines::StatementRead
 }
 
 // Behind `END`, with the equations by rising variable: 15, then the deck.
-fn finished(
+fn finished<'a>(
     held: cardlines::Held,
-    inits: [u64; decks::INITIALS * decks::WORDS],
-    property: [u16; decks::PROPERTY_NODES],
-    lefts: [u16; decks::EQUATIONS],
-    ends: [u16; decks::EQUATIONS],
-    nodes: [u16; decks::EQUATION_NODES],
+    inits: &'a [u64],
+    lefts: &'a [u16],
+    ends: &'a [u16],
+    nodes: &'a [u16],
+    property: &'a [u16],
 ) -> decks::DeckRead
-    requires { ⌜ ((s : Sofar) × Sorted s held inits lefts ends nodes property) ⌝ }
-    ensures { λ r. ⌜ ((s : Sofar) → Sorted s held inits lefts ends nodes property → r ≡ deckRead (complete (deckOf (s .typed)))) ⌝ }
+    requires { ⌜ ((s : Sofar) × Sorted s held (now inits) (now lefts) (now ends) (now nodes) (now property)) ⌝ }
+    ensures { λ r. ⌜ ((s : Sofar) → Sorted s held (now (inits .entry)) (now (lefts .entry)) (now (ends .entry)) (now (nodes .entry)) (now (property .entry)) → DeckCame (complete (deckOf (s .typed))) r (now (inits .entry)) (now (lefts .entry)) (now (ends .entry)) (now (nodes .entry)) (now (property .entry))) ⌝ }
 {
     let vars = first_vars(held.count);
-    let missing = sets::without(vars, sorting::left_set(&lefts, held.equations));
+    let missing = sets::without(vars, sorting::left_set(lefts, held.equations));
     if missing != 0 {
         return decks::refused(decks::Answer::NoEquation(sets::lowest(missing) as u64));
     }
     decks::DeckRead {
         answer: decks::Answer::Fine,
-        deck: decks::Deck {
-            vars: vars,
-            inits: inits,
-            initials: held.initials,
-            lefts: lefts,
-            ends: ends,
-            equations: held.equations,
-            nodes: nodes,
-            property: property,
-            size: held.size,
-        },
+        vars: vars,
+        initials: held.initials,
+        equations: held.equations,
+        size: held.size,
     }
 }
 
 // The statements of cards that are in form, then what is missing, then their equations by rising variable and the deck.
-fn second_pass(text: &[u8]) -> decks::DeckRead
-    requires { ⌜ Formed 1 (cardsOf (drop 0 (now text))) ⌝ }
-    ensures { λ r. ⌜ r ≡ deckRead (afterwards (walk statementRead 1 (statementsOf (cardsOf (now (text .entry)))) begun) cardsEnd) ⌝ }
+fn second_pass(
+    text: &[u8],
+    inits: &mut [u64],
+    lefts: &mut [u16],
+    ends: &mut [u16],
+    nodes: &mut [u16],
+    property: &mut [u16],
+) -> decks::DeckRead
+    requires { ⌜ Formed 1 (cardsOf (drop 0 (now text))) × Blank (now inits) (now lefts) (now ends) (now nodes) (now property) ⌝ }
+    ensures { λ r. ⌜ DeckCame (afterwards (walk statementRead 1 (statementsOf (cardsOf (now (text .entry)))) begun) cardsEnd) r (now (inits .exit)) (now (lefts .exit)) (now (ends .exit)) (now (nodes .exit)) (now (property .exit)) ⌝ }
 {
-    let mut inits = [0u64; decks::INITIALS * decks::WORDS];
     let mut scratch = [0u16; statements::CHARACTERS];
-    let mut lefts = [0u16; decks::EQUATIONS];
-    let mut ends = [0u16; decks::EQUATIONS];
-    let mut nodes = [0u16; decks::EQUATION_NODES];
-    let mut property = [0u16; decks::PROPERTY_NODES];
-    let r = all_statements(
-        text,
-        &mut inits,
-        &mut scratch,
-        &mut lefts,
-        &mut ends,
-        &mut nodes,
-        &mut property,
-    );
+    let r = all_statements(text, inits, &mut scratch, lefts, ends, nodes, property);
     if !r.fine {
         let a = r.answer;
         return decks::refused(a);
@@ -213,19 +200,21 @@ fn second_pass(text: &[u8]) -> decks::DeckRead
     if held.due != cardlines::DUE_NONE {
         return decks::refused(decks::Answer::NotDue(0));
     }
-    sorting::sort(
-        &mut lefts,
-        &mut ends,
-        &mut nodes,
-        held.equations,
-        held.count,
-    );
-    finished(held, inits, property, lefts, ends, nodes)
+    sorting::sort(lefts, ends, nodes, held.equations, held.count);
+    finished(held, inits, lefts, ends, nodes, property)
 }
 
-// A text of cards read as a deck.
-pub fn read_cards(text: &[u8]) -> decks::DeckRead
-    ensures { λ r. ⌜ r ≡ deckRead (readCards (now (text .entry))) ⌝ }
+// A text of cards read as a deck, into rows of zeros.
+pub fn read_cards(
+    text: &[u8],
+    inits: &mut [u64],
+    lefts: &mut [u16],
+    ends: &mut [u16],
+    nodes: &mut [u16],
+    property: &mut [u16],
+) -> decks::DeckRead
+    requires { ⌜ Blank (now inits) (now lefts) (now ends) (now nodes) (now property) ⌝ }
+    ensures { λ r. ⌜ DeckCame (readCards (now (text .entry))) r (now (inits .exit)) (now (lefts .exit)) (now (ends .exit)) (now (nodes .exit)) (now (property .exit)) ⌝ }
 {
     if text.len() > decks::TEXT {
         return decks::refused(decks::Answer::TooLong(1));
@@ -234,5 +223,5 @@ pub fn read_cards(text: &[u8]) -> decks::DeckRead
     let decks::Answer::Fine = a else {
         return decks::refused(a);
     };
-    second_pass(text)
+    second_pass(text, inits, lefts, ends, nodes, property)
 }

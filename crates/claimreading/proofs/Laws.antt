@@ -2,12 +2,12 @@
 use mathlib.Core.Path.{_≡_, refl, sym, ap, _∙_, subst}
 use mathlib.Core.Bool.{Bool, true, false, not}
 use mathlib.Core.List.{List, [], _∷_, _++_}
-use Prim.Native.Nat.{ℕ, _+_, _-_, _/_, _%_, _<_, _≤_}
+use Prim.Native.Nat.{ℕ, _+_, _-_, _*_, _/_, _%_, _<_, _≤_}
 use native.Mathlib.Omega.{arith}
 use native.Mathlib.Numerals.{add-one}
 use lib.Dec.{ltb, eqb}
-use lib.ListN.{length, take, drop, set, replicate, length-append, drop-of-length-le}
-use lib.Seq.{drop-cons}
+use lib.ListN.{length, take, drop, set, replicate, length-append, length-drop, length-set, drop-of-length-le}
+use lib.Seq.{drop-cons, length-take-le}
 use borrow.Author.Tests.{lt-ltb, le-ltb, eq-eqb, ne-eqb}
 use Rattle.lists.specs.Lists.{padded, ended, unended}
 use Rattle.lists.proofs.Laws.{padded-snoc, padded-nil}
@@ -17,7 +17,7 @@ use Rattle.decks.specs.declared.Answer.{Answer}
 use Rattle.decks.specs.declared.Answer.the-variants.{Fine, TooLong, BadFrame, Outside}
 use Rattle.decks.specs.declared.ClaimRead.{ClaimRead}
 use Rattle.decks.specs.Answers.{Outcome, Got, Refused, refuse, afterwards}
-use Rattle.decks.specs.Stored.{claimRead}
+use Rattle.decks.specs.Stored.{claimRead, ClaimCame}
 use Rattle.frames.specs.Hex.{number}
 use Rattle.frames.specs.Read.{kindOf, wholeNumber, countLine, ClaimSofar, ClaimDue, StatesDue, ClaimWhole, sizesLine, stateLine, claimLine, claimEnd, readClaim}
 use Rattle.decks.specs.Readings.{walk}
@@ -25,15 +25,21 @@ use Rattle.lines.specs.declared.Number.{Number}
 use Rattle.lines.specs.declared.Number.the-variants.{Good, Bad}
 use Rattle.lines.specs.Steps.{numberRead, countIs}
 use Rattle.ends.specs.Ends.{lineLength}
-use Rattle.lines.proofs.Laws.{whole-number-none, whole-number-some, count-line}
+use Rattle.lines.proofs.Laws.{whole-number-none, whole-number-some, number-long, count-line}
 use Rattle.ends.proofs.Laws.{ended-at, unended-at, ended-last, unended-last}
 use Rattle.claimreading.specs.declared.Held.{Held}
 use Rattle.claimreading.specs.declared.LineRead.{LineRead}
-use Rattle.claimreading.specs.Held.{heldOf, statesOf, lineOf, StatesAfter, Came}
+use Rattle.claimreading.specs.Held.{heldOf, lineOf, HoldsStates, RoomFor, StatesAfter, Came}
 
 -- A line refused holds nothing.
 pub refused-small : (r : LineRead) (a : Answer) → r ≡ lineOf (Refused a) → r .held .p + r .held .c ≤ 1024
 refused-small r a e = omega (arith, ap (λ (x : LineRead). x .held .p + x .held .c) e)
+
+pub refused-none : (r : LineRead) (a : Answer) → r ≡ lineOf (Refused a) → r .held .count ≡ 0
+refused-none r a e = ap (λ (x : LineRead). x .held .count) e
+
+pub none-few : (r : LineRead) (m : ℕ) → r .held .count ≡ 0 → 19 * r .held .count ≤ m
+none-few r m e = omega arith
 
 -- ---- 11
 
@@ -104,25 +110,51 @@ after-number : (o : Outcome ℕ) (f : ℕ → Outcome ClaimSofar) (l : List ℕ)
 after-number (Got x) f l h = h x
 after-number (Refused a) f l h = tt
 
--- 11 leaves the states as they were: zeros.
-sizes-states : (n : ℕ) (line : List ℕ) → StatesAfter (claimLine 0 n line ClaimDue) (replicate 1024 0)
+-- The sizes are read, no state yet.
+abbrev begun : ℕ → ClaimSofar
+begun x = StatesDue (record { p = x / 65536; c = x % 65536; states = [] })
+
+-- 11 leaves the row as it was: zeros.
+sizes-states : (n : ℕ) (line states : List ℕ) → HoldsStates ClaimDue states → StatesAfter (claimLine 0 n line ClaimDue) states
 unfolding claimLine sizesLine
-sizes-states n line =
-    after-refusal (BadFrame 2 n) (not (eqb (kindOf line) 17)) (sizesLine n (drop 2 line)) (replicate 1024 0)
+sizes-states n line states z =
+    after-refusal (BadFrame 2 n) (not (eqb (kindOf line) 17)) (sizesLine n (drop 2 line)) states
     (after-number (wholeNumber 2 n 4 (drop 2 line))
-    (λ x. refuse (eqb (x % 65536) 0) (BadFrame 2 n) (refuse (ltb 1024 (x / 65536 + x % 65536)) (BadFrame 2 n) (Got (StatesDue (record { p = x / 65536; c = x % 65536; states = [] })))))
-    (replicate 1024 0)
+    (λ x. refuse (eqb (x % 65536) 0) (BadFrame 2 n) (refuse (ltb 1024 (x / 65536 + x % 65536)) (BadFrame 2 n) (Got (begun x))))
+    states
     (λ x.
-    after-refusal (BadFrame 2 n) (eqb (x % 65536) 0) (refuse (ltb 1024 (x / 65536 + x % 65536)) (BadFrame 2 n) (Got (StatesDue (record { p = x / 65536; c = x % 65536; states = [] })))) (replicate 1024 0)
-    (after-refusal (BadFrame 2 n) (ltb 1024 (x / 65536 + x % 65536)) (Got (StatesDue (record { p = x / 65536; c = x % 65536; states = [] }))) (replicate 1024 0) (sym (padded-nil 1024)))))
+    after-refusal (BadFrame 2 n) (eqb (x % 65536) 0) (refuse (ltb 1024 (x / 65536 + x % 65536)) (BadFrame 2 n) (Got (begun x))) states
+    (after-refusal (BadFrame 2 n) (ltb 1024 (x / 65536 + x % 65536)) (Got (begun x)) states (record { states-are = z .states-are; states-fit = z .states-fit }))))
+
+-- ---- room
+
+-- A line that is a state has 18 characters.
+state-bytes : (line : List ℕ) (x : Number) (y : ℕ) → x ≡ numberRead (number 8 (drop 2 line)) → x ≡ Good y → length line ≡ 18
+state-bytes line x y e q = omega (arith, number-long 8 (drop 2 line) x y e q, length-drop 2 line)
+
+module _ (line : List ℕ) (h : Held) (x : Number) (y : ℕ) where
+  pub state-room : (states : List ℕ) → RoomFor (19 * h .count + length line + 1) states → h .p + h .c ≤ 1024 → h .count < h .p + h .c → x ≡ numberRead (number 8 (drop 2 line)) → x ≡ Good y → h .count < length states
+  state-room states room a l e q = room (h .count) (omega arith) (omega (arith, state-bytes line x y e q))
+
+  pub state-few : x ≡ numberRead (number 8 (drop 2 line)) → x ≡ Good y → 19 * (h .count + 1) ≤ 19 * h .count + length line + 1
+  state-few e q = omega (arith, state-bytes line x y e q)
+
+pub count-few : (line : List ℕ) (h : Held) → 19 * h .count ≤ 19 * h .count + length line + 1
+count-few line h = omega arith
+
+pub room-kept : (bytes : ℕ) (states out : List ℕ) → RoomFor bytes states → length out ≡ length states → RoomFor bytes out
+room-kept bytes states out room e i a b = omega (arith, room i a b, e)
+
+pub stored-long : (states out : List ℕ) (i y : ℕ) → out ≡ set states i y → length out ≡ length states
+stored-long states out i y e = ap length e ∙ length-set states i y
 
 module _ (line : List ℕ) (vars n : ℕ) (h : Held) (s : ClaimSofar) where
-  pub line-sizes : (r : LineRead) (states : List ℕ) → h ≡ heldOf s → states ≡ statesOf s → h .due ≡ 0 → r ≡ lineOf (claimLine 0 n line ClaimDue) → Came (claimLine vars n line s) r states
+  pub line-sizes : (r : LineRead) (states : List ℕ) → h ≡ heldOf s → HoldsStates s states → h .due ≡ 0 → r ≡ lineOf (claimLine 0 n line ClaimDue) → Came (claimLine vars n line s) r states
   line-sizes r states e f d q =
       let z : s ≡ ClaimDue = due-claim s h e d in
       let t : claimLine 0 n line ClaimDue ≡ claimLine vars n line s = sym (sizes-due line n 0 vars) ∙ ap (claimLine vars n line) (sym z) in
-      let g : states ≡ replicate 1024 0 = f ∙ ap statesOf z in
-      subst (λ (o : Outcome ClaimSofar). Came o r states) t (record { line-is = q; states-are = subst (StatesAfter (claimLine 0 n line ClaimDue)) (sym g) (sizes-states n line) })
+      let g : HoldsStates ClaimDue states = subst (λ (x : ClaimSofar). HoldsStates x states) z f in
+      subst (λ (o : Outcome ClaimSofar). Came o r states) t (record { line-is = q; states-are = sizes-states n line states g })
 
   pub line-none : (r : LineRead) (out : List ℕ) → h ≡ heldOf s → h .due ≡ 2 → r ≡ lineOf (Refused (BadFrame 2 n)) → Came (claimLine vars n line s) r out
   unfolding claimLine
@@ -171,19 +203,31 @@ module _ (line : List ℕ) (vars n : ℕ) (h : Held) (s : ClaimSofar) where
             let t : stateLine vars n (drop 2 line) m ≡ Refused (Outside 2 n) = simp (whole-number-some 2 n 8 (drop 2 line) x y v w, u, stateLine) in
             came-refused (claimLine vars n line (StatesDue m)) (Outside 2 n) r out (a-state m g l i d ∙ t) f)
 
-        pub state-fine : (states out : List ℕ) → h ≡ heldOf s → states ≡ statesOf s → (h .due ≡ 0 → ⊥) → (h .due ≡ 2 → ⊥) → h .p + h .c ≤ 1024 → k ≡ kindOf line → h .count < h .p + h .c → k ≡ 18 → x ≡ numberRead (number 8 (drop 2 line)) → x ≡ Good y → b ≡ inside y vars → not b ≡ false → out ≡ set states (h .count) y → Came (claimLine vars n line s) (went (record { due = 1; p = h .p; c = h .c; count = h .count + 1 })) out
+        pub state-fine : (states out : List ℕ) → h ≡ heldOf s → HoldsStates s states → (h .due ≡ 0 → ⊥) → (h .due ≡ 2 → ⊥) → RoomFor (19 * h .count + length line + 1) states → h .p + h .c ≤ 1024 → k ≡ kindOf line → h .count < h .p + h .c → k ≡ 18 → x ≡ numberRead (number 8 (drop 2 line)) → x ≡ Good y → b ≡ inside y vars → not b ≡ false → out ≡ set states (h .count) y → Came (claimLine vars n line s) (went (record { due = 1; p = h .p; c = h .c; count = h .count + 1 })) out
         unfolding stateLine
-        state-fine states out e c p q a i l d v w j z f =
-            due-states (λ x. states ≡ statesOf x → Came (claimLine vars n line x) (went (record { due = 1; p = h .p; c = h .c; count = h .count + 1 })) out) s h e p q
+        state-fine states out e c p q room a i l d v w j z f =
+            due-states (λ x. HoldsStates x states → Came (claimLine vars n line x) (went (record { due = 1; p = h .p; c = h .c; count = h .count + 1 })) out) s h e p q
             (λ m g o.
             let u : not (inside y vars) ≡ false = ap not (sym j) ∙ z in
             let next : Claim = record { p = m .p; c = m .c; states = m .states ++ (y ∷ []) } in
             let t : stateLine vars n (drop 2 line) m ≡ Got (StatesDue next) = simp (whole-number-some 2 n 8 (drop 2 line) x y v w, u, stateLine) in
-            let long : h .count + 1 ≡ length (m .states ++ (y ∷ [])) = omega (arith, ap (λ (x : Held). x .count) g, length-append (m .states) (y ∷ [])) in
+            let many : h .count ≡ length (m .states) = ap (λ (x : Held). x .count) g in
+            let here : h .count < length states = state-room line h x y states room a l v w in
+            let long : h .count + 1 ≡ length (m .states ++ (y ∷ [])) = omega (arith, many, length-append (m .states) (y ∷ [])) in
+            let size : length out ≡ length states = stored-long states out (h .count) y f in
             subst (λ (x : Outcome ClaimSofar). Came x (went (record { due = 1; p = h .p; c = h .c; count = h .count + 1 })) out) (sym (a-state m g l i d ∙ t))
             (record {
               line-is = ap (λ (x : ℕ). went (record { due = 1; p = h .p; c = h .c; count = x })) long ∙ ap (λ (x : Held). went (record { due = 1; p = x .p; c = x .c; count = length (m .states ++ (y ∷ [])) })) g;
-              states-are = f ∙ ap (λ (x : List ℕ). set x (h .count) y) o ∙ ap (λ (x : ℕ). set (padded 1024 (m .states)) x y) (ap (λ (x : Held). x .count) g) ∙ padded-snoc 1024 (m .states) y (omega (arith, a, l, ap (λ (x : Held). x .count) g));
+              states-are =
+                  record {
+                    states-are =
+                        f
+                        ∙ ap (λ (x : List ℕ). set x (h .count) y) (o .states-are)
+                        ∙ ap (λ (i : ℕ). set (padded (length states) (m .states)) i y) many
+                        ∙ padded-snoc (length states) (m .states) y (omega (arith, here, many))
+                        ∙ ap (λ (i : ℕ). padded i (m .states ++ (y ∷ []))) (sym size);
+                    states-fit = omega (arith, here, long, size);
+                  };
             }))
             c
 
@@ -203,14 +247,14 @@ module _ (line : List ℕ) (vars n : ℕ) (h : Held) (s : ClaimSofar) where
           let t : claimLine vars n line (StatesDue m) ≡ Refused (BadFrame 2 n) = last m g l ∙ simp (eq-eqb (kindOf line) 21 (sym i ∙ d), u) in
           came-refused (claimLine vars n line (StatesDue m)) (BadFrame 2 n) r out t f)
 
-      pub count-fine : (states : List ℕ) → h ≡ heldOf s → states ≡ statesOf s → (h .due ≡ 0 → ⊥) → (h .due ≡ 2 → ⊥) → k ≡ kindOf line → h .p + h .c ≤ h .count → k ≡ 21 → b ≡ countIs n (drop 2 line) → not b ≡ false → Came (claimLine vars n line s) (went (record { due = 2; p = h .p; c = h .c; count = h .count })) states
+      pub count-fine : (states : List ℕ) → h ≡ heldOf s → HoldsStates s states → (h .due ≡ 0 → ⊥) → (h .due ≡ 2 → ⊥) → k ≡ kindOf line → h .p + h .c ≤ h .count → k ≡ 21 → b ≡ countIs n (drop 2 line) → not b ≡ false → Came (claimLine vars n line s) (went (record { due = 2; p = h .p; c = h .c; count = h .count })) states
       count-fine states e c p q i l d j z =
-          due-states (λ x. states ≡ statesOf x → Came (claimLine vars n line x) (went (record { due = 2; p = h .p; c = h .c; count = h .count })) states) s h e p q
+          due-states (λ x. HoldsStates x states → Came (claimLine vars n line x) (went (record { due = 2; p = h .p; c = h .c; count = h .count })) states) s h e p q
           (λ m g o.
           let u : not (countIs n (drop 2 line)) ≡ false = ap not (sym j) ∙ z in
           let t : claimLine vars n line (StatesDue m) ≡ Got (ClaimWhole m) = last m g l ∙ simp (eq-eqb (kindOf line) 21 (sym i ∙ d), u) in
           subst (λ (x : Outcome ClaimSofar). Came x (went (record { due = 2; p = h .p; c = h .c; count = h .count })) states) (sym t)
-          (record { line-is = ap (λ (x : Held). went (record { due = 2; p = x .p; c = x .c; count = x .count })) g; states-are = o }))
+          (record { line-is = ap (λ (x : Held). went (record { due = 2; p = x .p; c = x .c; count = x .count })) g; states-are = record { states-are = o .states-are; states-fit = o .states-fit } }))
           c
 
 not-not : (b : Bool) → not (not b) ≡ b
@@ -219,6 +263,9 @@ not-not false = refl
 
 pub begun-small : (h : Held) → h ≡ heldOf ClaimDue → h .p + h .c ≤ 1024
 begun-small h e = omega (arith, ap (λ (x : Held). x .p + x .c) e)
+
+pub begun-few : (h : Held) → h ≡ heldOf ClaimDue → 19 * h .count ≤ 0
+begun-few h e = omega (arith, ap (λ (x : Held). x .count) e)
 
 -- ---- from line to line
 
@@ -230,7 +277,7 @@ rest vars n t s = afterwards (walk (claimLine vars) n (ended t) s) (λ u. claimE
 pub record Reached (text : List ℕ) (vars : ℕ) (states : List ℕ) (held : Held) (at n : ℕ) : Type 0 where
   pub sofar : ClaimSofar
   pub held-is : held ≡ heldOf sofar
-  pub states-are : states ≡ statesOf sofar
+  pub states-held : HoldsStates sofar states
   pub rest-is : readClaim vars text ≡ rest vars n (drop at text) sofar
 
 -- What the next line comes to.
@@ -250,70 +297,88 @@ rest-line vars n t line more s e u =
     go (Refused a) p = simp (p, walk)
 
 module _ (text : List ℕ) (vars : ℕ) where
-  pub too-long : (r : ClaimRead) → 64800 < length text → r ≡ claimRead (Refused (TooLong 2)) → r ≡ claimRead (readClaim vars text)
-  unfolding readClaim
-  too-long r h q = let z : readClaim vars text ≡ Refused (TooLong 2) = simp (lt-ltb 64800 (length text) h, readClaim) in q ∙ ap claimRead (sym z)
+  refused-came : (r : ClaimRead) (a : Answer) (states : List ℕ) → readClaim vars text ≡ Refused a → r ≡ claimRead (Refused a) → ClaimCame (readClaim vars text) r states
+  refused-came r a states e q = subst (λ (o : Outcome Claim). ClaimCame o r states) (sym e) (record { read-is = q; row-holds = tt })
 
-  pub reached-begun : (h : Held) → length text ≤ 64800 → h ≡ heldOf ClaimDue → Reached text vars (replicate 1024 0) h 0 1
+  pub too-long : (r : ClaimRead) (states : List ℕ) → 64800 < length text → r ≡ claimRead (Refused (TooLong 2)) → ClaimCame (readClaim vars text) r states
   unfolding readClaim
-  reached-begun h l e = record { sofar = ClaimDue; held-is = e; states-are = refl; rest-is = simp (le-ltb 64800 (length text) l, readClaim) }
+  too-long r states h q = refused-came r (TooLong 2) states (simp (lt-ltb 64800 (length text) h, readClaim)) q
+
+  pub reached-begun : (states : List ℕ) (h : Held) → states ≡ replicate (length states) 0 → length text ≤ 64800 → h ≡ heldOf ClaimDue → Reached text vars states h 0 1
+  unfolding readClaim
+  reached-begun states h f l e =
+      record {
+        sofar = ClaimDue;
+        held-is = e;
+        states-held = record { states-are = f ∙ sym (padded-nil (length states)); states-fit = omega arith };
+        rest-is = simp (le-ltb 64800 (length text) l, readClaim);
+      }
 
   module _ (states : List ℕ) (held : Held) (at n end : ℕ) where
     rest-none : Reached text vars states held at n → ended (drop at text) ≡ [] → (d : Reached text vars states held at n) → readClaim vars text ≡ claimEnd (unended (drop at text)) (d .sofar)
     unfolding walk
     rest-none x e d = d .rest-is ∙ ap (λ (l : List (List ℕ)). afterwards (walk (claimLine vars) n l (d .sofar)) (λ u. claimEnd (unended (drop at text)) u)) e
 
-    pub reached-early : (r : ClaimRead) → Reached text vars states held at n → at < length text → end ≡ at + lineLength (drop at text) → end ≡ length text → r ≡ claimRead (Refused (BadFrame 2 0)) → r ≡ claimRead (readClaim vars text)
+    pub reached-early : (r : ClaimRead) → Reached text vars states held at n → at < length text → end ≡ at + lineLength (drop at text) → end ≡ length text → r ≡ claimRead (Refused (BadFrame 2 0)) → ClaimCame (readClaim vars text) r states
     unfolding claimEnd
     reached-early r d h e i q =
         let l : length text ≤ end = omega arith in
         let m : at ≤ length text = omega arith in
-        let z : readClaim vars text ≡ Refused (BadFrame 2 0) = rest-none d (ended-last text at end e l m) d ∙ ap (λ (l : List ℕ). claimEnd l (d .sofar)) (unended-last text at end e l m ∙ drop-cons text at 0 h) in
-        q ∙ ap claimRead (sym z)
+        refused-came r (BadFrame 2 0) states (rest-none d (ended-last text at end e l m) d ∙ ap (λ (l : List ℕ). claimEnd l (d .sofar)) (unended-last text at end e l m ∙ drop-cons text at 0 h)) q
+
+    -- The line takes as many bytes as it has characters, and one.
+    line-size : end ≤ length text → at ≤ end → length (take (end - at) (drop at text)) ≡ end - at
+    line-size l i = length-take-le (end - at) (drop at text) (omega (arith, length-drop at text))
+
+    pub line-room : RoomFor (length text) states → 19 * held .count ≤ at → end ≤ length text → (end ≡ length text → ⊥) → at ≤ end → RoomFor (19 * held .count + length (take (end - at) (drop at text)) + 1) states
+    line-room room f l k i m a b = room m a (omega (arith, line-size l i))
 
     module _ (r : LineRead) (out : List ℕ) where
       the-line : (d : Reached text vars states held at n) → end ≡ at + lineLength (drop at text) → end < length text → at ≤ end → readClaim vars text ≡ onward vars (n + 1) (drop (end + 1) text) (claimLine vars n (take (end - at) (drop at text)) (d .sofar))
       the-line d e h i = d .rest-is ∙ rest-line vars n (drop at text) (take (end - at) (drop at text)) (drop (end + 1) text) (d .sofar) (ended-at text at end e h i) (unended-at text at end e h i)
 
+      pub line-few : 19 * held .count ≤ at → end ≤ length text → at ≤ end → 19 * r .held .count ≤ 19 * held .count + length (take (end - at) (drop at text)) + 1 → 19 * r .held .count ≤ end + 1
+      line-few f l i g = omega (arith, line-size l i)
+
       -- What the reader of a line promises, at this line.
       abbrev pub LineCame : Type 0
-      LineCame = (s : ClaimSofar) → held ≡ heldOf s → states ≡ statesOf s → Came (claimLine vars n (take (end - at) (drop at text)) s) r out
+      LineCame = (s : ClaimSofar) → held ≡ heldOf s → HoldsStates s states → Came (claimLine vars n (take (end - at) (drop at text)) s) r out
 
-      pub reached-refused : (x : ClaimRead) → x ≡ claimRead (Refused (r .answer)) → Reached text vars states held at n → end ≡ at + lineLength (drop at text) → end ≤ length text → (end ≡ length text → ⊥) → at ≤ end → LineCame → not (r .fine) ≡ true → x ≡ claimRead (readClaim vars text)
-      reached-refused x q d e l k i c f = let h : end < length text = omega arith in q ∙ ap claimRead (sym (the-line d e h i ∙ go (claimLine vars n (take (end - at) (drop at text)) (d .sofar)) (c (d .sofar) (d .held-is) (d .states-are))))
+      pub reached-refused : (x : ClaimRead) → x ≡ claimRead (Refused (r .answer)) → Reached text vars states held at n → end ≡ at + lineLength (drop at text) → end ≤ length text → (end ≡ length text → ⊥) → at ≤ end → LineCame → not (r .fine) ≡ true → ClaimCame (readClaim vars text) x out
+      reached-refused x q d e l k i c f = let h : end < length text = omega arith in refused-came x (r .answer) out (the-line d e h i ∙ go (claimLine vars n (take (end - at) (drop at text)) (d .sofar)) (c (d .sofar) (d .held-is) (d .states-held))) q
         where
           go : (o : Outcome ClaimSofar) → Came o r out → onward vars (n + 1) (drop (end + 1) text) o ≡ Refused (r .answer)
           go (Got s) y = let z : false ≡ true = ap (λ (w : LineRead). not (w .fine)) (sym (y .line-is)) ∙ f in cc
           go (Refused b) y = ap (λ (w : LineRead). Refused (w .answer)) (sym (y .line-is))
 
       pub reached-on : Reached text vars states held at n → end ≡ at + lineLength (drop at text) → end ≤ length text → (end ≡ length text → ⊥) → at ≤ end → LineCame → not (r .fine) ≡ false → Reached text vars out (r .held) (end + 1) (n + 1)
-      reached-on d e l k i c f = let h : end < length text = omega arith in go (claimLine vars n (take (end - at) (drop at text)) (d .sofar)) (c (d .sofar) (d .held-is) (d .states-are)) (the-line d e h i)
+      reached-on d e l k i c f = let h : end < length text = omega arith in go (claimLine vars n (take (end - at) (drop at text)) (d .sofar)) (c (d .sofar) (d .held-is) (d .states-held)) (the-line d e h i)
         where
           fine : not (r .fine) ≡ false → r .fine ≡ true
           fine q = sym (not-not (r .fine)) ∙ ap not q
 
           go : (o : Outcome ClaimSofar) → Came o r out → readClaim vars text ≡ onward vars (n + 1) (drop (end + 1) text) o → Reached text vars out (r .held) (end + 1) (n + 1)
-          go (Got s) y z = record { sofar = s; held-is = ap (λ (w : LineRead). w .held) (y .line-is); states-are = y .states-are; rest-is = z }
+          go (Got s) y z = record { sofar = s; held-is = ap (λ (w : LineRead). w .held) (y .line-is); states-held = y .states-are; rest-is = z }
           go (Refused b) y z = let w : false ≡ true = sym (ap (λ (w : LineRead). w .fine) (y .line-is)) ∙ fine f in let i : _≡_ {A = ℕ} 0 1 = cc in absurd (omega arith)
 
     behind : (d : Reached text vars states held at n) → length text ≤ at → readClaim vars text ≡ claimEnd [] (d .sofar)
     unfolding ended unended
     behind d h = rest-none d (ap ended (drop-of-length-le text {i = at} h)) d ∙ ap (λ (l : List ℕ). claimEnd (unended l) (d .sofar)) (drop-of-length-le text {i = at} h)
 
-    pub reached-unfinished : (r : ClaimRead) → Reached text vars states held at n → length text ≤ at → (held .due ≡ 2 → ⊥) → r ≡ claimRead (Refused (BadFrame 2 0)) → r ≡ claimRead (readClaim vars text)
+    pub reached-unfinished : (r : ClaimRead) → Reached text vars states held at n → length text ≤ at → (held .due ≡ 2 → ⊥) → r ≡ claimRead (Refused (BadFrame 2 0)) → ClaimCame (readClaim vars text) r states
     unfolding claimEnd
-    reached-unfinished r d h i q = q ∙ ap claimRead (sym (behind d h ∙ go (d .sofar) (d .held-is)))
+    reached-unfinished r d h i q = refused-came r (BadFrame 2 0) states (behind d h ∙ go (d .sofar) (d .held-is)) q
       where
         go : (s : ClaimSofar) → held ≡ heldOf s → claimEnd [] s ≡ Refused (BadFrame 2 0)
         go ClaimDue e = refl
         go (StatesDue m) e = refl
         go (ClaimWhole m) e = absurd (i (ap (λ (x : Held). x .due) e))
 
-    pub reached-done : Reached text vars states held at n → length text ≤ at → held .due ≡ 2 → record { answer = Fine; p = held .p; c = held .c; states = states } ≡ claimRead (readClaim vars text)
+    pub reached-done : Reached text vars states held at n → length text ≤ at → held .due ≡ 2 → ClaimCame (readClaim vars text) (record { answer = Fine; p = held .p; c = held .c }) states
     unfolding claimEnd
-    reached-done d h i = go (d .sofar) (d .held-is) (d .states-are) ∙ ap claimRead (sym (behind d h))
+    reached-done d h i = subst (λ (o : Outcome Claim). ClaimCame o (record { answer = Fine; p = held .p; c = held .c }) states) (sym (behind d h)) (go (d .sofar) (d .held-is) (d .states-held))
       where
-        go : (s : ClaimSofar) → held ≡ heldOf s → states ≡ statesOf s → _≡_ {A = ClaimRead} (record { answer = Fine; p = held .p; c = held .c; states = states }) (claimRead (claimEnd [] s))
+        go : (s : ClaimSofar) → held ≡ heldOf s → HoldsStates s states → ClaimCame (claimEnd [] s) (record { answer = Fine; p = held .p; c = held .c }) states
         go ClaimDue e f = absurd (omega (arith, ap (λ (x : Held). x .due) e))
         go (StatesDue m) e f = absurd (omega (arith, ap (λ (x : Held). x .due) e))
-        go (ClaimWhole m) e f = ap (λ (x : List ℕ). record { answer = Fine; p = held .p; c = held .c; states = x }) f ∙ ap (λ (x : Held). record { answer = Fine; p = x .p; c = x .c; states = padded 1024 (m .states) }) e
+        go (ClaimWhole m) e f = record { read-is = ap (λ (x : Held). record { answer = Fine; p = x .p; c = x .c }) e; row-holds = (f .states-are, f .states-fit) }

@@ -1,13 +1,13 @@
 // The reader of claims.
 ghost use mathlib.Core.Path.{_≡_};
-ghost use Prim.Native.Nat.{_+_, _<_, _≤_};
-ghost use lib.ListN.{length};
+ghost use Prim.Native.Nat.{_+_, _*_, _<_, _≤_};
+ghost use lib.ListN.{length, replicate};
 ghost use Rattle.logic.specs.Decks.{base};
 ghost use Rattle.decks.specs.declared.Answer.the-variants.{BadFrame};
 ghost use Rattle.decks.specs.Answers.{Refused};
-ghost use Rattle.decks.specs.Stored.{claimRead};
+ghost use Rattle.decks.specs.Stored.{claimRead, ClaimCame};
 ghost use Rattle.frames.specs.Read.{ClaimSofar, ClaimDue, claimLine, readClaim};
-ghost use Rattle.claimreading.specs.Held.{heldOf, statesOf, lineOf, Came};
+ghost use Rattle.claimreading.specs.Held.{heldOf, lineOf, HoldsStates, RoomFor, Came};
 
 // The kinds of a claim's frames.
 const CLAIM: u64 = 17;
@@ -81,7 +81,7 @@ fn bad(n: u64) -> LineRead
 
 // 11: p, then c.
 fn sizes_line(line: &[u8], n: u64) -> LineRead
-    ensures { λ r. ⌜ (r ≡ lineOf (claimLine 0 n (now (line .entry)) ClaimDue)) × (r .held .p + r .held .c ≤ base .states) ⌝ }
+    ensures { λ r. ⌜ (r ≡ lineOf (claimLine 0 n (now (line .entry)) ClaimDue)) × (r .held .p + r .held .c ≤ base .states) × (r .held .count ≡ 0) ⌝ }
 {
     if lines::pair_at(line, 0) != CLAIM {
         return bad(n);
@@ -111,8 +111,8 @@ fn sizes_line(line: &[u8], n: u64) -> LineRead
 
 // Line n of a claim.
 fn claim_line(line: &[u8], n: u64, vars: u64, h: Held, states: &mut [u64]) -> LineRead
-    requires { ⌜ (1 ≤ n) × (length (now states) ≡ base .states) × (h .p + h .c ≤ base .states) ⌝ }
-    ensures { λ r. ⌜ (length (now (states .exit)) ≡ base .states) × (r .held .p + r .held .c ≤ base .states) × ((s : ClaimSofar) → h ≡ heldOf s → now (states .entry) ≡ statesOf s → Came (claimLine vars n (now (line .entry)) s) r (now (states .exit))) ⌝ }
+    requires { ⌜ (1 ≤ n) × (h .p + h .c ≤ base .states) × RoomFor (19 * h .count + length (now line) + 1) (now states) ⌝ }
+    ensures { λ r. ⌜ (length (now (states .exit)) ≡ length (now (states .entry))) × (r .held .p + r .held .c ≤ base .states) × (19 * r .held .count ≤ 19 * h .count + length (now (line .entry)) + 1) × ((s : ClaimSofar) → h ≡ heldOf s → HoldsStates s (now (states .entry)) → Came (claimLine vars n (now (line .entry)) s) r (now (states .exit))) ⌝ }
 {
     if h.due == CLAIM_DUE {
         return sizes_line(line, n);
@@ -169,18 +169,17 @@ fn refused(a: decks::Answer) -> decks::ClaimRead
         answer: a,
         p: 0,
         c: 0,
-        states: [0; decks::STATES * decks::WORDS],
     }
 }
 
-// A text read as a claim on a deck with the variables given.
-pub fn read_claim(text: &[u8], vars: u64) -> decks::ClaimRead
-    ensures { λ r. ⌜ r ≡ claimRead (readClaim vars (now (text .entry))) ⌝ }
+// A text read as a claim on a deck with the variables given, into a row of zeros with room for the states that a text of that length can have.
+pub fn read_claim(text: &[u8], vars: u64, states: &mut [u64]) -> decks::ClaimRead
+    requires { ⌜ (now states ≡ replicate (length (now states)) 0) × RoomFor (length (now text)) (now states) ⌝ }
+    ensures { λ r. ⌜ (length (now (states .exit)) ≡ length (now (states .entry))) × ClaimCame (readClaim vars (now (text .entry))) r (now (states .exit)) ⌝ }
 {
     if text.len() > decks::TEXT {
         return refused(decks::Answer::TooLong(CLAIM_TEXT));
     }
-    let mut states = [0u64; decks::STATES * decks::WORDS];
     let mut held = nothing();
     let mut at = 0;
     let mut n = 1u64;
@@ -189,7 +188,7 @@ pub fn read_claim(text: &[u8], vars: u64) -> decks::ClaimRead
         if end == text.len() {
             return refused(decks::Answer::BadFrame(CLAIM_TEXT, 0));
         }
-        let r = claim_line(&text[at..end], n, vars, held, &mut states);
+        let r = claim_line(&text[at..end], n, vars, held, states);
         if !r.fine {
             let a = r.answer;
             return refused(a);
@@ -205,6 +204,5 @@ pub fn read_claim(text: &[u8], vars: u64) -> decks::ClaimRead
         answer: decks::Answer::Fine,
         p: held.p,
         c: held.c,
-        states: states,
     }
 }

@@ -19,15 +19,16 @@ use Rattle.logic.proofs.Codes.{written-narrow}
 use Rattle.logic.proofs.Verdict.{truth-lt}
 use Rattle.terms.specs.Nodes.{Stands}
 use Rattle.terms.proofs.Trees.{stands-at}
-use Rattle.decks.specs.declared.Deck.{Deck as Stored}
+use Rattle.decks.specs.declared.DeckRead.{DeckRead}
 use Rattle.decks.specs.declared.Answer.the-variants.{Fine, NotInitial, NoStep, Holding}
-use Rattle.decks.specs.Stored.{stored}
+use Rattle.decks.specs.Answers.{Got}
+use Rattle.decks.specs.Stored.{DeckCame}
 use Rattle.evaluator.specs.Pending.{All, following}
 use Rattle.truths.specs.Worked.{claimOf, truthWord, Ready, Evaluated}
 use Rattle.steps.specs.Steps.{behind, takenWord, Fit, Given, Zeros, FirstLacking}
 use Rattle.claims.specs.Checked.{verdictAnswer}
 
--- ---- what the deck in memory holds
+-- ---- what the lent rows hold
 
 fit-allowed : (vars : ℕ) (q : Equation) → vars < 2 ^ base .variables → Allowed base vars q → Fit q
 fit-allowed vars q h a =
@@ -38,33 +39,37 @@ fit-allowed vars q h a =
       shallow = a .shallow;
     }
 
-module _ (d : Stored) (D : Deck) (e : d ≡ stored D) (ok : Accepted base D) where
-  pub equations-given : Given (D .equations) (d .lefts) (d .ends) (d .nodes) (d .equations)
-  equations-given =
-      rw e
-      (record {
-        held = record { lefts-are = refl; ends-are = refl; nodes-are = refl; count-is = refl };
+module _ (read : DeckRead) (inits lefts ends nodes property : List ℕ) (D : Deck) (ok : Accepted base D) (came : DeckCame (Got D) read inits lefts ends nodes property) where
+  its-equations : Given (D .equations) lefts ends nodes (read .equations)
+  its-equations =
+      record {
+        held = rw (came .read-is) (came .rows-hold .equations-are);
         fit = each-map (Allowed base (D .vars)) Fit (D .equations) (λ q a. fit-allowed (D .vars) q (ok .vars-in) a) (ok .equations-allowed);
-      })
+      }
 
-  pub initials-within : d .initials ≤ length (d .inits)
-  initials-within = rw e (omega (arith, length-padded (base .initials) (D .inits) (ok .inits-most), ok .inits-most))
+  pub equations-given : (qs : List Equation) × Given qs lefts ends nodes (read .equations)
+  equations-given = (D .equations, its-equations)
 
-  initials-are : take (d .initials) (d .inits) ≡ D .inits
-  initials-are = rw e (take-padded (base .initials) (D .inits))
+  pub initials-within : read .initials ≤ length inits
+  initials-within = rw (came .read-is, came .rows-hold .inits-are) (omega (arith, length-padded (base .initials) (D .inits) (ok .inits-most), ok .inits-most))
 
-  property-stands : Stands (d .property) 0 (D .property)
-  property-stands = rw e (stands-at [] _ (D .property) (written-narrow (base .variables) (D .vars) (D .property) (omega arith) (ok .vars-in) (ok .property-in)))
+  initials-are : take (read .initials) inits ≡ D .inits
+  initials-are = rw (came .read-is, came .rows-hold .inits-are) (take-padded (base .initials) (D .inits))
 
-  vars-are : d .vars ≡ D .vars
-  vars-are = rw e refl
+  property-stands : Stands property 0 (D .property)
+  property-stands =
+      rw (came .rows-hold .property-is)
+      (stands-at [] _ (D .property) (written-narrow (base .variables) (D .vars) (D .property) (omega arith) (ok .vars-in) (ok .property-in)))
+
+  vars-are : read .vars ≡ D .vars
+  vars-are = rw (came .read-is) refl
 
   pub property-ready : (states : List ℕ) (p : ℕ) (words zeros : List ℕ)
       → words ≡ zeros
       → Zeros zeros
       → length zeros ≡ length states
       → p < length states
-      → Ready (d .property) 0 states p words (base .levels)
+      → Ready property 0 states p words (base .levels)
   property-ready states p words zeros q z l k =
       record {
         its = D .property;
@@ -76,21 +81,13 @@ module _ (d : Stored) (D : Deck) (e : d ≡ stored D) (ok : Accepted base D) whe
         loop = k;
       }
 
-  pub word-here : (states : List ℕ) (p : ℕ) (words zeros after : List ℕ)
-      → words ≡ zeros
-      → length zeros ≡ length states
-      → p < length states
-      → Evaluated (d .property) 0 states p words after
-      → 0 < length after
-  word-here states p words zeros after q l k f = let w = f (D .property) property-stands .same in omega (arith, ap length q)
-
   module _ (states : List ℕ) (p : ℕ) (k : p < length states) where
     -- ---- 20
 
-    is-initial : (b : Bool) (s : ℕ) → s ≡ getD states 0 0 → b ≡ stands s (take (d .initials) (d .inits)) → b ≡ stands (stateOf (claimOf p states) 0) (D .inits)
+    is-initial : (b : Bool) (s : ℕ) → s ≡ getD states 0 0 → b ≡ stands s (take (read .initials) inits) → b ≡ stands (stateOf (claimOf p states) 0) (D .inits)
     is-initial b s h q = q ∙ ap₂ stands h initials-are
 
-    pub not-initial : (b : Bool) (s : ℕ) → s ≡ getD states 0 0 → b ≡ stands s (take (d .initials) (d .inits)) → not b ≡ true → NotInitial ≡ verdictAnswer (verdict D (claimOf p states))
+    pub not-initial : (b : Bool) (s : ℕ) → s ≡ getD states 0 0 → b ≡ stands s (take (read .initials) inits) → not b ≡ true → NotInitial ≡ verdictAnswer (verdict D (claimOf p states))
     unfolding verdict
     not-initial b s h q n = let f : stands (stateOf (claimOf p states) 0) (D .inits) ≡ false = sym (is-initial b s h q) ∙ go b n in let v : verdict D (claimOf p states) ≡ NotInitialState = simp (f, verdict) in sym (ap verdictAnswer v)
       where
@@ -98,7 +95,7 @@ module _ (d : Stored) (D : Deck) (e : d ≡ stored D) (ok : Accepted base D) whe
         go true n = sym n
         go false n = refl
 
-    initial : (b : Bool) (s : ℕ) → s ≡ getD states 0 0 → b ≡ stands s (take (d .initials) (d .inits)) → not b ≡ false → verdict D (claimOf p states) ≡ stepsFrom D (claimOf p states) (length states) 0
+    initial : (b : Bool) (s : ℕ) → s ≡ getD states 0 0 → b ≡ stands s (take (read .initials) inits) → not b ≡ false → verdict D (claimOf p states) ≡ stepsFrom D (claimOf p states) (length states) 0
     unfolding verdict
     initial b s h q n =
         let f : stands (stateOf (claimOf p states) 0) (D .inits) ≡ true = sym (is-initial b s h q) ∙ go b n in
@@ -112,20 +109,23 @@ module _ (d : Stored) (D : Deck) (e : d ≡ stored D) (ok : Accepted base D) whe
 
     -- ---- 21
 
-    module _ (zeros marks : List ℕ) (z : Zeros zeros) (long : length zeros ≡ length states) (m : All (takenWord (D .equations) states p) zeros marks) where
-      step-allowed : (j : ℕ) → j < length states → allowed D (stateOf (claimOf p states) j) (stateOf (claimOf p states) (follower (claimOf p states) j)) ≡ inside (d .vars) (getD marks j 0)
+    module _ (zeros marks : List ℕ) (z : Zeros zeros) (long : length zeros ≡ length states) (m : (qs : List Equation) → Given qs lefts ends nodes (read .equations) → All (takenWord qs states p) zeros marks) where
+      its-marks : All (takenWord (D .equations) states p) zeros marks
+      its-marks = m (D .equations) its-equations
+
+      step-allowed : (j : ℕ) → j < length states → allowed D (stateOf (claimOf p states) j) (stateOf (claimOf p states) (follower (claimOf p states) j)) ≡ inside (read .vars) (getD marks j 0)
       unfolding allowed takenWord following follower
       step-allowed j l =
           let n : length states ≡ p + (length states - p) = omega arith in
           let b : j < length zeros = omega arith in
           let t : getD marks j 0 ≡ taken (D .equations) (getD states j 0) (behind states p j) =
-          m .before j b b ∙ ap (λ (u : ℕ). union u (taken (D .equations) (getD states j 0) (behind states p j))) (z j) ∙ or-zero-l (taken (D .equations) (getD states j 0) (behind states p j)) in
+          its-marks .before j b b ∙ ap (λ (u : ℕ). union u (taken (D .equations) (getD states j 0) (behind states p j))) (z j) ∙ or-zero-l (taken (D .equations) (getD states j 0) (behind states p j)) in
           let f : following (length states) p j ≡ follower (claimOf p states) j = ap (λ (n : ℕ). following n p j) n in
           rw (t, vars-are, f) refl
 
-      module _ (r : ℕ) (first : FirstLacking (d .vars) marks r) where
+      module _ (r : ℕ) (first : FirstLacking (read .vars) marks r) where
         marks-long : length marks ≡ length states
-        marks-long = m .same ∙ long
+        marks-long = its-marks .same ∙ long
 
         steps-to : (j : ℕ) → j ≤ r → stepsFrom D (claimOf p states) (length states) 0 ≡ stepsFrom D (claimOf p states) (length states - j) j
         unfolding stepsFrom
@@ -144,38 +144,47 @@ module _ (d : Stored) (D : Deck) (e : d ≡ stored D) (ok : Accepted base D) whe
 
         pub no-step : (b : Bool) (s : ℕ)
             → s ≡ getD states 0 0
-            → b ≡ stands s (take (d .initials) (d .inits))
+            → b ≡ stands s (take (read .initials) inits)
             → not b ≡ false
             → r < length states
             → NoStep r ≡ verdictAnswer (verdict D (claimOf p states))
         no-step b s h q n l = sym (ap verdictAnswer (initial b s h q n ∙ lacking l))
 
-        -- ---- 22
+        pub only-property : (b : Bool) (s : ℕ)
+            → s ≡ getD states 0 0
+            → b ≡ stands s (take (read .initials) inits)
+            → not b ≡ false
+            → length states ≤ r
+            → verdict D (claimOf p states) ≡ stepsFrom D (claimOf p states) 0 0
+        unfolding stepsFrom
+        only-property b s h q n l =
+            let e : length states - r ≡ 0 = omega arith in
+            initial b s h q n ∙ steps-to r (omega arith) ∙ ap (λ (n : ℕ). stepsFrom D (claimOf p states) n r) e
 
-        whole : length states ≤ r → stepsFrom D (claimOf p states) (length states) 0 ≡ stepsFrom D (claimOf p states) 0 r
-        whole l = let q : length states - r ≡ 0 = omega arith in steps-to r (omega arith) ∙ ap (λ (n : ℕ). stepsFrom D (claimOf p states) n r) q
+  -- ---- 22
 
-        module _ (b : Bool) (s : ℕ) (h : s ≡ getD states 0 0) (q : b ≡ stands s (take (d .initials) (d .inits))) (n : not b ≡ false) (l : length states ≤ r) (words after : List ℕ) (wl : length words ≡ length states) (f : Evaluated (d .property) 0 states p words after) (w : ℕ) (its : w ≡ getD after 0 0) where
-          top-is : w % 2 ≡ truth (claimOf p states) (D .property) 0
-          unfolding truthWord
-          top-is =
-              let x : 0 < length words = omega arith in
-              let y = f (D .property) property-stands .before 0 x x in
-              omega (arith, truth-lt (claimOf p states) (D .property) 0)
+  module _ (states : List ℕ) (p : ℕ) (words after : List ℕ) (some : 0 < length after) (f : Evaluated property 0 states p words after) (v : verdict D (claimOf p states) ≡ stepsFrom D (claimOf p states) 0 0) (w : ℕ) (its : w ≡ getD after 0 0) where
+    top-is : w % 2 ≡ truth (claimOf p states) (D .property) 0
+    unfolding truthWord
+    top-is =
+        let g = f (D .property) property-stands in
+        let x : 0 < length words = omega (arith, g .same) in
+        let y = g .before 0 x x in
+        omega (arith, truth-lt (claimOf p states) (D .property) 0)
 
-          pub holding : w % 2 ≡ 1 → Holding ≡ verdictAnswer (verdict D (claimOf p states))
-          unfolding stepsFrom
-          holding t =
-              let a = eq-eqb (truth (claimOf p states) (D .property) 0) 1 (sym top-is ∙ t) in
-              let v : stepsFrom D (claimOf p states) 0 r ≡ HoldingProperty = simp (a, stepsFrom) in
-              sym (ap verdictAnswer (initial b s h q n ∙ whole l ∙ v))
+    pub holding : w % 2 ≡ 1 → Holding ≡ verdictAnswer (verdict D (claimOf p states))
+    unfolding stepsFrom
+    holding t =
+        let a = eq-eqb (truth (claimOf p states) (D .property) 0) 1 (sym top-is ∙ t) in
+        let h : stepsFrom D (claimOf p states) 0 0 ≡ HoldingProperty = simp (a, stepsFrom) in
+        sym (ap verdictAnswer (v ∙ h))
 
-          pub breaking : (w % 2 ≡ 1 → ⊥) → Fine ≡ verdictAnswer (verdict D (claimOf p states))
-          unfolding stepsFrom
-          breaking t =
-              let a = ne-eqb (truth (claimOf p states) (D .property) 0) 1 (λ y. t (top-is ∙ y)) in
-              let v : stepsFrom D (claimOf p states) 0 r ≡ Breaking = simp (a, stepsFrom) in
-              sym (ap verdictAnswer (initial b s h q n ∙ whole l ∙ v))
+    pub breaking : (w % 2 ≡ 1 → ⊥) → Fine ≡ verdictAnswer (verdict D (claimOf p states))
+    unfolding stepsFrom
+    breaking t =
+        let a = ne-eqb (truth (claimOf p states) (D .property) 0) 1 (λ y. t (top-is ∙ y)) in
+        let h : stepsFrom D (claimOf p states) 0 0 ≡ Breaking = simp (a, stepsFrom) in
+        sym (ap verdictAnswer (v ∙ h))
 
 -- ---- a claim that was read, and room of zeros, as they are lent
 

@@ -1,5 +1,5 @@
--- What is answered to a stored deck and a set.
-use mathlib.Core.Path.{_≡_, refl, sym, ap, _∙_, subst}
+-- What is answered to a deck and a set.
+use mathlib.Core.Path.{_≡_, refl, sym, ap, _∙_}
 use mathlib.Core.List.{List}
 use Prim.Native.Nat.{ℕ, _^_, _<_}
 use Rattle.lists.proofs.Laws.{each-map}
@@ -8,18 +8,17 @@ use Rattle.sets.proofs.Laws.{inside-true, inside-false, subset-without, without
 use Rattle.logic.specs.Expressions.{written}
 use Rattle.logic.specs.Decks.{Equation, Deck, Allowed, Accepted, base}
 use Rattle.logic.specs.Cones.{cone}
-use Rattle.decks.specs.declared.Deck.{Deck as Stored}
 use Rattle.decks.specs.declared.Answer.the-variants.{Fine, Outside}
-use Rattle.decks.specs.Stored.{stored}
+use Rattle.decks.specs.Stored.{HoldsEquations}
 use Rattle.cones.specs.Dependencies.{Small, Given}
 use Rattle.cones.specs.Cone.{lowestOutside, coneRead}
 
--- ---- the arrays of an accepted deck
+-- ---- the equations of an accepted deck
 
-pub accepted-given : (D : Deck) → Accepted base D → Given (D .equations) (stored D .lefts) (stored D .ends) (stored D .nodes) (stored D .equations)
-accepted-given D a =
+pub accepted-given : (D : Deck) → Accepted base D → (lefts ends nodes : List ℕ) (n : ℕ) → HoldsEquations (D .equations) lefts ends nodes n → Given (D .equations) lefts ends nodes n
+accepted-given D a lefts ends nodes n h =
     record {
-      held = record { lefts-are = refl; ends-are = refl; nodes-are = refl; count-is = refl };
+      held = h;
       small =
           each-map
           (Allowed base (D .vars))
@@ -48,25 +47,29 @@ module _ (D : Deck) (s : ℕ) where
   pub outside-lowest : s < 2 ^ base .variables → (s ⊆ D .vars → ⊥) → Lowest (without s (D .vars)) (lowestOutside D s)
   outside-lowest h n = lowest-found (without s (D .vars)) (lowestOutside D s) refl (λ z. n (without-subset s (D .vars) z)) (without-lt width s (D .vars) h)
 
--- ---- a stored deck
+-- ---- a deck whose equations lie in rows
 
-module _ (d : Stored) where
-  -- The arrays hold equations that a deck may have.
+module _ (vars : ℕ) (lefts ends nodes : List ℕ) (equations : ℕ) where
+  -- The rows hold equations that a deck may have.
   abbrev Holds : List Equation → Type 0
-  Holds qs = Given qs (d .lefts) (d .ends) (d .nodes) (d .equations)
+  Holds qs = Given qs lefts ends nodes equations
 
-  pub stored-given : (D : Deck) → d ≡ stored D → Accepted base D → Holds (D .equations)
-  stored-given D e a = subst (λ (m : Stored). Given (D .equations) (m .lefts) (m .ends) (m .nodes) (m .equations)) (sym e) (accepted-given D a)
+  pub given-some : (D : Deck) × Accepted base D × (vars ≡ D .vars) × HoldsEquations (D .equations) lefts ends nodes equations → (qs : List Equation) × Holds qs
+  given-some (D, a, v, h) = (D .equations, accepted-given D a lefts ends nodes equations h)
 
-  pub given-some : (D : Deck) × (d ≡ stored D) × Accepted base D → (qs : List Equation) × Holds qs
-  given-some p = (p .0 .equations, stored-given (p .0) (p .1) (p .2))
-
-  module _ (s outside : ℕ) (o : outside ≡ without s (d .vars)) (D : Deck) (e : d ≡ stored D) where
+  module _ (s outside : ℕ) (o : outside ≡ without s vars) (D : Deck) (e : vars ≡ D .vars) where
     outside-its : outside ≡ without s (D .vars)
-    outside-its = o ∙ ap (λ (m : Stored). without s (m .vars)) e
+    outside-its = o ∙ ap (without s) e
 
     pub answered-outside : (v : ℕ) → (outside ≡ 0 → ⊥) → v ≡ lowestOf outside → record { answer = Outside 0 v; set = 0; size = 0 } ≡ coneRead D s
     answered-outside v n l = rw (l, outside-its) (sym (read-outside D s (λ f. n (outside-its ∙ subset-without s (D .vars) f))))
 
-    pub answered-cone : (c n : ℕ) → outside ≡ 0 → Accepted base D → ((qs : List Equation) → Holds qs → c ≡ cone qs s) → n ≡ size c → record { answer = Fine; set = c; size = n } ≡ coneRead D s
-    answered-cone c n z a f k = rw (k, f (D .equations) (stored-given D e a)) (sym (read-cone D s (without-subset s (D .vars) (sym outside-its ∙ z))))
+    pub answered-cone : (c n : ℕ)
+        → outside ≡ 0
+        → Accepted base D
+        → HoldsEquations (D .equations) lefts ends nodes equations
+        → ((qs : List Equation) → Holds qs → c ≡ cone qs s)
+        → n ≡ size c
+        → record { answer = Fine; set = c; size = n } ≡ coneRead D s
+    answered-cone c n z a h f k =
+        rw (k, f (D .equations) (accepted-given D a lefts ends nodes equations h)) (sym (read-cone D s (without-subset s (D .vars) (sym outside-its ∙ z))))

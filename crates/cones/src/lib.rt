@@ -6,7 +6,7 @@ ghost use lib.ListN.{length, getD, set as put, replicate};
 ghost use Rattle.sets.specs.Sets.{union};
 ghost use Rattle.logic.specs.Decks.{Equation, Deck, Accepted, base};
 ghost use Rattle.logic.specs.Cones.{cone};
-ghost use Rattle.decks.specs.Stored.{stored};
+ghost use Rattle.decks.specs.Stored.{HoldsEquations};
 ghost use Rattle.cones.specs.Dependencies.{Given, table};
 ghost use Rattle.cones.specs.Cone.{coneRead};
 
@@ -15,20 +15,6 @@ pub struct ConeRead {
     pub answer: decks::Answer,
     pub set: u64,
     pub size: usize,
-}
-
-fn wide(n: u16) -> usize
-    ensures { λ r. ⌜ r ≡ n ⌝ }
-{
-    n as usize
-}
-
-// Number i of a row.
-fn number_at(row: &[u16], i: usize) -> usize
-    requires { ⌜ i < length (now row) ⌝ }
-    ensures { λ r. ⌜ r ≡ getD (now (row .entry)) i 0 ⌝ }
-{
-    wide(row[i])
 }
 
 // The variables that v depends on.
@@ -62,8 +48,8 @@ pub fn dependencies<'a>(
     let mut i = 0;
     let mut at = 0;
     while i < equations {
-        let v = number_at(lefts, i);
-        let end = number_at(ends, i);
+        let v = decks::place_at(lefts, i);
+        let end = decks::place_at(ends, i);
         add(deps, v, terms::written_in(nodes, at, end));
         at = end;
         i += 1;
@@ -96,11 +82,18 @@ fn cone_of<'a>(lefts: &'a [u16], ends: &'a [u16], nodes: &'a [u16], equations: u
 }
 
 // The cone of s in a deck, and its size; 9 names the lowest variable outside the deck's.
-pub fn cone(d: decks::Deck, s: u64) -> ConeRead
-    requires { ⌜ ((D : Deck) × (d ≡ stored D) × Accepted base D) ⌝ }
-    ensures { λ r. ⌜ ((D : Deck) → d ≡ stored D → Accepted base D → r ≡ coneRead D s) ⌝ }
+pub fn cone<'a>(
+    vars: u64,
+    lefts: &'a [u16],
+    ends: &'a [u16],
+    nodes: &'a [u16],
+    equations: usize,
+    s: u64,
+) -> ConeRead
+    requires { ⌜ ((D : Deck) × Accepted base D × (vars ≡ D .vars) × HoldsEquations (D .equations) (now lefts) (now ends) (now nodes) equations) ⌝ }
+    ensures { λ r. ⌜ ((D : Deck) → Accepted base D → vars ≡ D .vars → HoldsEquations (D .equations) (now (lefts .entry)) (now (ends .entry)) (now (nodes .entry)) equations → r ≡ coneRead D s) ⌝ }
 {
-    let outside = sets::without(s, d.vars);
+    let outside = sets::without(s, vars);
     if outside != 0 {
         return ConeRead {
             answer: decks::Answer::Outside(0, sets::lowest(outside) as u64),
@@ -108,7 +101,7 @@ pub fn cone(d: decks::Deck, s: u64) -> ConeRead
             size: 0,
         };
     }
-    let set = cone_of(&d.lefts, &d.ends, &d.nodes, d.equations, s);
+    let set = cone_of(lefts, ends, nodes, equations, s);
     ConeRead {
         answer: decks::Answer::Fine,
         set: set,

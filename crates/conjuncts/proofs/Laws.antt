@@ -10,7 +10,7 @@ use lib.ListN.{length, take, drop, getD, set, length-append, length-take, length
 use lib.Seq.{take-at, drop-at, take-all}
 use Rattle.lists.specs.Lists.{splice, part}
 use Rattle.lists.proofs.Laws.{set-splice, splice-splice, length-splice}
-use Rattle.logic.specs.Expressions.{Expr, Const, Var, One, Two, Not, Next, Future, Always, And, Or, Until, Weak, nodes, constNode, Narrow}
+use Rattle.logic.specs.Expressions.{Expr, Const, Var, One, Two, Not, Next, Future, Always, And, Or, Until, Weak, nodes, Narrow}
 use Rattle.logic.specs.Expressions as Expressions
 use Rattle.logic.specs.Pieces.{split}
 use Rattle.logic.proofs.Codes.{nodes-some, length-code}

@@ -2,14 +2,13 @@
 use mathlib.Core.Path.{_≡_, refl, sym, ap, _∙_}
 use mathlib.Core.Bool.{Bool, true, false}
 use mathlib.Core.List.{List, [], _∷_, _++_, map, map-append}
-use Prim.Native.Nat.{ℕ, suc, _+_, _-_, _<_, _≤_}
+use Prim.Native.Nat.{ℕ, _+_, _<_, _≤_}
 use native.Mathlib.Omega.{arith}
 use native.Mathlib.Numerals.{add-one}
-use borrow.Author.Tests.{eq-eqb, ne-eqb}
-use lib.ListN.{length, take, drop, getD, set}
+use lib.ListN.{length, take, getD, set}
 use lib.Seq.{take-suc, take-suc-set}
-use Rattle.lists.specs.Lists.{stands, firsts, _among_, part}
-use Rattle.lists.proofs.Laws.{true-stands, false-stands, stands-firsts, firsts-new, firsts-again, part-next, part-done}
+use Rattle.lists.specs.Lists.{stands, firsts}
+use Rattle.lists.proofs.Laws.{true-stands, false-stands, stands-firsts, firsts-new, firsts-again}
 use Rattle.sets.specs.Sets.{meet}
 use Rattle.logic.specs.Pieces.{projected}
 

@@ -2,7 +2,7 @@
 ghost use mathlib.Core.Path.{_≡_};
 ghost use mathlib.Core.List.{List, [], _∷_, _++_};
 ghost use Prim.Native.Nat.{ℕ, _+_, _<_, _≤_};
-ghost use lib.ListN.{length, take, getD, set as put};
+ghost use lib.ListN.{length, take, set as put};
 ghost use Rattle.lists.specs.Lists.{firsts, splice};
 ghost use Rattle.logic.specs.Expressions.{Expr};
 ghost use Rattle.logic.specs.Pieces.{split as conjunctsOf, projected};
@@ -39,20 +39,6 @@ pub fn split_property(property: &[u16], size: usize, row: &mut [u16]) -> usize
 {
     let used = split(&property[..size], 0, row, 0);
     used / 2
-}
-
-fn wide(place: u16) -> usize
-    ensures { λ r. ⌜ r ≡ place ⌝ }
-{
-    place as usize
-}
-
-// Place i of a row.
-pub fn place_at(row: &[u16], i: usize) -> usize
-    requires { ⌜ i < length (now row) ⌝ }
-    ensures { λ r. ⌜ r ≡ getD (now (row .entry)) i 0 ⌝ }
-{
-    wide(row[i])
 }
 
 // A state behind the first n, where it does not stand among them, and how many there are then.

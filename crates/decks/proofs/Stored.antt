@@ -1,5 +1,5 @@
 -- The arrays that hold a deck's equations: equation by equation, and with one equation more.
-use mathlib.Core.Path.{_≡_, refl, sym, ap, _∙_}
+use mathlib.Core.Path.{_≡_, refl, sym, ap, _∙_, subst}
 use mathlib.Core.Bool.{false}
 use mathlib.Core.List.{List, [], _∷_, _++_, append-assoc, append-nil}
 use Prim.Native.Nat.{ℕ, zero, suc, _+_, _-_, _<_, _≤_}
@@ -10,9 +10,13 @@ use lib.Seq.{drop-cons}
 use Rattle.lists.specs.Lists.{Each, padded, splice}
 use Rattle.lists.proofs.Laws.{each-getD, getD-padded, padded-snoc, padded-append}
 use Rattle.logic.specs.Expressions.{Const, nodes, code}
-use Rattle.logic.specs.Decks.{Equation, base, totalNodes}
+use Rattle.logic.specs.Decks.{Equation, Deck, base, totalNodes}
 use Rattle.logic.proofs.Codes.{length-code}
-use Rattle.decks.specs.Stored.{leftsOf, endsOf, codes, HoldsEquations}
+use Rattle.decks.specs.declared.Deck.{Deck as Stored}
+use Rattle.decks.specs.declared.DeckRead.{DeckRead}
+use Rattle.decks.specs.declared.Answer.{Answer}
+use Rattle.decks.specs.Answers.{Outcome, Got, Refused}
+use Rattle.decks.specs.Stored.{leftsOf, endsOf, codes, HoldsEquations, stored, deckRead, DeckCame}
 
 -- What stands for an equation behind the last one.
 abbrev noEquation : Equation
@@ -143,3 +147,40 @@ equations-more qs q lefts ends nodes′ n k h =
   where
     from-zero : totalNodes qs + nodes (q .right) ≡ 0 + totalNodes qs + nodes (q .right)
     from-zero = omega arith
+
+-- ---- a deck that was read
+
+-- The deck in memory that a reading and its rows come to.
+abbrev pub storedIn : DeckRead → List ℕ → List ℕ → List ℕ → List ℕ → List ℕ → Stored
+storedIn r inits lefts ends nodes property =
+    record {
+      vars = r .vars;
+      inits = inits;
+      initials = r .initials;
+      lefts = lefts;
+      ends = ends;
+      equations = r .equations;
+      nodes = nodes;
+      property = property;
+      size = r .size;
+    }
+
+pub came-stored : (D : Deck) (r : DeckRead) (inits lefts ends nodes property : List ℕ) → DeckCame (Got D) r inits lefts ends nodes property → storedIn r inits lefts ends nodes property ≡ stored D
+came-stored D r inits lefts ends nodes property h =
+    let rows = h .rows-hold in
+    let held = rows .equations-are in
+    ap (λ (x : DeckRead). storedIn x inits lefts ends nodes property) (h .read-is)
+    ∙ ap (λ (l : List ℕ). storedIn (deckRead (Got D)) l lefts ends nodes property) (rows .inits-are)
+    ∙ ap (λ (l : List ℕ). storedIn (deckRead (Got D)) (stored D .inits) l ends nodes property) (held .lefts-are)
+    ∙ ap (λ (l : List ℕ). storedIn (deckRead (Got D)) (stored D .inits) (stored D .lefts) l nodes property) (held .ends-are)
+    ∙ ap (λ (l : List ℕ). storedIn (deckRead (Got D)) (stored D .inits) (stored D .lefts) (stored D .ends) l property) (held .nodes-are)
+    ∙ ap (λ (l : List ℕ). storedIn (deckRead (Got D)) (stored D .inits) (stored D .lefts) (stored D .ends) (stored D .nodes) l) (rows .property-is)
+
+pub came-equations : (D : Deck) (r : DeckRead) (inits lefts ends nodes property : List ℕ) → DeckCame (Got D) r inits lefts ends nodes property → HoldsEquations (D .equations) lefts ends nodes (r .equations)
+came-equations D r inits lefts ends nodes property h =
+    let held = h .rows-hold .equations-are in
+    record { lefts-are = held .lefts-are; ends-are = held .ends-are; nodes-are = held .nodes-are; count-is = ap (λ (x : DeckRead). x .equations) (h .read-is) }
+
+-- A refusal, whatever the rows hold.
+pub refused-came : (o : Outcome Deck) (a : Answer) (r : DeckRead) (inits lefts ends nodes property : List ℕ) → r ≡ deckRead (Refused a) → o ≡ Refused a → DeckCame o r inits lefts ends nodes property
+refused-came o a r inits lefts ends nodes property q z = subst (λ (x : Outcome Deck). DeckCame x r inits lefts ends nodes property) (sym z) (record { read-is = q; rows-hold = tt })

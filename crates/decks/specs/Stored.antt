@@ -1,10 +1,10 @@
 -- The value in memory that a deck of the logic has: every byte of it.
 use mathlib.Core.Path.{_≡_}
 use mathlib.Core.List.{List, [], _∷_, _++_, map}
-use Prim.Native.Nat.{ℕ, _+_}
+use Prim.Native.Nat.{ℕ, _+_, _≤_}
 use lib.ListN.{length, replicate}
 use Rattle.lists.specs.Lists.{padded}
-use Rattle.logic.specs.Expressions.{Expr, nodes, code}
+use Rattle.logic.specs.Expressions.{nodes, code}
 use Rattle.logic.specs.Decks.{Equation, Deck, Limits, base}
 use Rattle.logic.specs.Meaning.{Claim}
 use Rattle.decks.specs.declared.Deck.{Deck as Stored}
@@ -65,15 +65,51 @@ blank =
       size = 0;
     }
 
+-- ---- decks and claims in lent rows
+
+-- The rows hold this deck: what is used of each stands from its first place on, zeros behind it.
+pub record HoldsDeck (d : Deck) (inits lefts ends nodes property : List ℕ) : Type 0 where
+  pub inits-are : inits ≡ padded (base .initials) (d .inits)
+  pub equations-are : HoldsEquations (d .equations) lefts ends nodes (length (d .equations))
+  pub property-is : property ≡ padded (base .propertyNodes) (code (d .property))
+
+-- The rows before a deck is read: zeros.
+pub record Blank (inits lefts ends nodes property : List ℕ) : Type 0 where
+  pub inits-zero : inits ≡ replicate (base .initials) 0
+  pub lefts-zero : lefts ≡ replicate (base .equations) 0
+  pub ends-zero : ends ≡ replicate (base .equations) 0
+  pub nodes-zero : nodes ≡ replicate (base .equationNodes) 0
+  pub property-zero : property ≡ replicate (base .propertyNodes) 0
+
 -- What a reader of decks returns.
 abbrev pub deckRead : Outcome Deck → DeckRead
-deckRead (Got d) = record { answer = Fine; deck = stored d }
-deckRead (Refused a) = record { answer = a; deck = blank }
+deckRead (Got d) = record { answer = Fine; vars = d .vars; initials = length (d .inits); equations = length (d .equations); size = nodes (d .property) }
+deckRead (Refused a) = record { answer = a; vars = 0; initials = 0; equations = 0; size = 0 }
+
+-- The rows behind a reading that was not refused.
+abbrev pub DeckHeld : Outcome Deck → List ℕ → List ℕ → List ℕ → List ℕ → List ℕ → Type 0
+DeckHeld (Got d) inits lefts ends nodes property = HoldsDeck d inits lefts ends nodes property
+DeckHeld (Refused a) inits lefts ends nodes property = Unit
+
+-- What a reading came to, with the rows behind it.
+pub record DeckCame (o : Outcome Deck) (r : DeckRead) (inits lefts ends nodes property : List ℕ) : Type 0 where
+  pub read-is : r ≡ deckRead o
+  pub rows-hold : DeckHeld o inits lefts ends nodes property
 
 -- What a reader of claims returns.
 abbrev pub claimRead : Outcome Claim → ClaimRead
-claimRead (Got m) = record { answer = Fine; p = m .p; c = m .c; states = padded (base .states) (m .states) }
-claimRead (Refused a) = record { answer = a; p = 0; c = 0; states = replicate (base .states) 0 }
+claimRead (Got m) = record { answer = Fine; p = m .p; c = m .c }
+claimRead (Refused a) = record { answer = a; p = 0; c = 0 }
+
+-- The row behind a reading that was not refused: the states of the claim, zeros behind them.
+abbrev pub StatesHeld : Outcome Claim → List ℕ → Type 0
+StatesHeld (Got m) states = (states ≡ padded (length states) (m .states)) × (length (m .states) ≤ length states)
+StatesHeld (Refused a) states = Unit
+
+-- What a reading of a claim came to, with the row behind it.
+pub record ClaimCame (o : Outcome Claim) (r : ClaimRead) (states : List ℕ) : Type 0 where
+  pub read-is : r ≡ claimRead o
+  pub row-holds : StatesHeld o states
 
 -- The limits as the code has them.
 abbrev pub sizesOf : Limits → Sizes

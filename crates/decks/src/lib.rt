@@ -1,9 +1,9 @@
 // The deck in memory, the limits, and the answers with their numbers.
 ghost use mathlib.Core.Path.{_≡_};
-ghost use Prim.Native.Nat.{ℕ, _+_, _*_, _<_, _≤_};
-ghost use lib.ListN.{length, take, drop, getD, set, replicate};
+ghost use Prim.Native.Nat.{_<_, _≤_};
+ghost use lib.ListN.{length, take, getD, set};
 ghost use Rattle.lists.specs.Lists.{stands};
-ghost use Rattle.logic.specs.Decks.{Limits, base};
+ghost use Rattle.logic.specs.Decks.{base};
 ghost use Rattle.decks.specs.Answers.{Refused, replyOf};
 ghost use Rattle.decks.specs.Stored.{blank, deckRead, sizesOf};
 
@@ -73,18 +73,20 @@ pub struct Reply {
     pub place: u64,
 }
 
-// What a reader of decks comes to: the deck, or a refusal and the deck of zeros.
+// What a reader of decks comes to, beside the rows lent to it: the variables and how much of the rows is used, or a refusal and zeros.
 pub struct DeckRead {
     pub answer: Answer,
-    pub deck: Deck,
+    pub vars: u64,
+    pub initials: usize,
+    pub equations: usize,
+    pub size: usize,
 }
 
-// What a reader of claims comes to: p, c and the states with zeros behind them, or a refusal and zeros.
+// What a reader of claims comes to, beside the row of states lent to it: p and c, or a refusal and zeros.
 pub struct ClaimRead {
     pub answer: Answer,
     pub p: usize,
     pub c: usize,
-    pub states: [u64; STATES * WORDS],
 }
 
 // The limits, as the logic has them.
@@ -113,6 +115,29 @@ pub fn limits() -> Sizes
         levels: LEVELS,
         states: STATES,
     }
+}
+
+// A number of a row as a place or a count.
+pub fn wide(n: u16) -> usize
+    ensures { λ r. ⌜ (r ≡ n) × (r < 65536) ⌝ }
+{
+    n as usize
+}
+
+// Number i of a row.
+pub fn number_at(row: &[u16], i: usize) -> u16
+    requires { ⌜ i < length (now row) ⌝ }
+    ensures { λ r. ⌜ r ≡ getD (now (row .entry)) i 0 ⌝ }
+{
+    row[i]
+}
+
+// Number i of a row as a place or a count.
+pub fn place_at(row: &[u16], i: usize) -> usize
+    requires { ⌜ i < length (now row) ⌝ }
+    ensures { λ r. ⌜ (r ≡ getD (now (row .entry)) i 0) × (r < 65536) ⌝ }
+{
+    wide(row[i])
 }
 
 // State i of a row of states.
@@ -276,12 +301,15 @@ pub fn no_deck() -> Deck
     }
 }
 
-// A refusal, and the deck of zeros beside it.
+// A refusal, and zeros beside it.
 pub fn refused(a: Answer) -> DeckRead
     ensures { λ r. ⌜ r ≡ deckRead (Refused a) ⌝ }
 {
     DeckRead {
         answer: a,
-        deck: no_deck(),
+        vars: 0,
+        initials: 0,
+        equations: 0,
+        size: 0,
     }
 }

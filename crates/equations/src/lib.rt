@@ -2,7 +2,7 @@
 ghost use mathlib.Core.Path.{_≡_};
 ghost use mathlib.Core.List.{List, _++_};
 ghost use Prim.Native.Nat.{ℕ, _+_, _-_, _*_, _<_, _≤_};
-ghost use lib.ListN.{length, take, getD};
+ghost use lib.ListN.{length, take};
 ghost use Rattle.lists.specs.Lists.{splice, keep, part};
 ghost use Rattle.sets.specs.Sets.{has};
 ghost use Rattle.logic.specs.Decks.{Equation, base};
@@ -42,21 +42,6 @@ pub fn put_chosen(
     0
 }
 
-// A place's number as a count.
-fn wide(x: u16) -> usize
-    ensures { λ r. ⌜ (r ≡ x) × (r < 65536) ⌝ }
-{
-    x as usize
-}
-
-// What stands at place i.
-fn place_of(l: &[u16], i: usize) -> usize
-    requires { ⌜ i < length (now l) ⌝ }
-    ensures { λ r. ⌜ (r ≡ getD (now (l .entry)) i 0) × (r < 65536) ⌝ }
-{
-    wide(l[i])
-}
-
 // The frames of the equations of the set's variables, and their length.
 pub fn put_equations(
     out: &mut [u8],
@@ -73,8 +58,8 @@ pub fn put_equations(
     let mut from = 0;
     let mut used = 0;
     while i < count {
-        let left = place_of(lefts, i);
-        let to = place_of(ends, i);
+        let left = decks::place_at(lefts, i);
+        let to = decks::place_at(ends, i);
         let n = put_chosen(&mut out[used..], vars, left, nodes, from, to);
         used += n;
         from = to;
@@ -101,7 +86,7 @@ pub fn count_of(vars: u64, lefts: &[u16], count: usize) -> usize
     let mut i = 0;
     let mut n = 0;
     while i < count {
-        let left = place_of(lefts, i);
+        let left = decks::place_at(lefts, i);
         n += of_set(vars, left, 1);
         i += 1;
     }
@@ -117,8 +102,8 @@ pub fn equations_size(vars: u64, lefts: &[u16], ends: &[u16], count: usize) -> u
     let mut from = 0;
     let mut n = 0;
     while i < count {
-        let left = place_of(lefts, i);
-        let to = place_of(ends, i);
+        let left = decks::place_at(lefts, i);
+        let to = decks::place_at(ends, i);
         n += of_set(vars, left, 2 * (to - from) + 5);
         from = to;
         i += 1;

@@ -13,6 +13,7 @@ use lib.ListN.{length, drop, getD, length-drop, drop-of-length-le}
 use lib.Seq.{drop-cons, drop-drop}
 use borrow.Author.Tests.{lt-ltb, le-ltb, le-leb, lt-leb, eq-eqb, ne-eqb, ltb-true}
 use Rattle.frames.specs.Hex.{digitOf, byteOf, numberFrom, number}
+use Rattle.frames.proofs.HexLaws.{pairs-number, length-pairs}
 use Rattle.decks.specs.declared.Answer.the-variants.{BadFrame}
 use Rattle.decks.specs.Answers.{Got, Refused, refuse}
 use Rattle.frames.specs.Read.{kindOf, wholeNumber, countLine}
@@ -88,26 +89,26 @@ module _ (l : List ℕ) (at r : ℕ) where
   pub no-pair-left : 2 ≤ length l → length l - 2 < at → 256 ≡ kindOf (drop at l)
   no-pair-left h k = sym (kind-short (drop at l) (omega (arith, length-drop at l)))
 
-  the-pair : 2 ≤ length l → at ≤ length l - 2 → kindOf (drop at l) ≡ byteOf (getD l at 0) (getD l (at + 1) 0)
+  the-pair : at + 2 ≤ length l → kindOf (drop at l) ≡ byteOf (getD l at 0) (getD l (at + 1) 0)
   unfolding kindOf
-  the-pair h k = ap kindOf (drop-two l at (omega arith))
+  the-pair h = ap kindOf (drop-two l at h)
 
-  pub pair-wrong-high : (high : ℕ) → 2 ≤ length l → at ≤ length l - 2 → high ≡ digitOf (getD l at 0) → 16 ≤ high → 256 ≡ kindOf (drop at l)
+  pub pair-wrong-high : (high : ℕ) → at + 2 ≤ length l → high ≡ digitOf (getD l at 0) → 16 ≤ high → 256 ≡ kindOf (drop at l)
   unfolding byteOf
-  pair-wrong-high high h k e i = sym (the-pair h k ∙ simp (le-ltb (digitOf (getD l at 0)) 16 (rw (← e) i), byteOf))
+  pair-wrong-high high h e i = sym (the-pair h ∙ simp (le-ltb (digitOf (getD l at 0)) 16 (rw (← e) i), byteOf))
 
   module _ (high low : ℕ) where
-    pub pair-wrong-low : 2 ≤ length l → at ≤ length l - 2 → high ≡ digitOf (getD l at 0) → high < 16 → low ≡ digitOf (getD l (at + 1) 0) → 16 ≤ low → 256 ≡ kindOf (drop at l)
+    pub pair-wrong-low : at + 2 ≤ length l → high ≡ digitOf (getD l at 0) → high < 16 → low ≡ digitOf (getD l (at + 1) 0) → 16 ≤ low → 256 ≡ kindOf (drop at l)
     unfolding byteOf
-    pair-wrong-low h k e i f j = sym (the-pair h k ∙ simp (lt-ltb (digitOf (getD l at 0)) 16 (rw (← e) i), le-ltb (digitOf (getD l (at + 1) 0)) 16 (rw (← f) j), byteOf))
+    pair-wrong-low h e i f j = sym (the-pair h ∙ simp (lt-ltb (digitOf (getD l at 0)) 16 (rw (← e) i), le-ltb (digitOf (getD l (at + 1) 0)) 16 (rw (← f) j), byteOf))
 
-    pub pair-read : 2 ≤ length l → at ≤ length l - 2 → high ≡ digitOf (getD l at 0) → high < 16 → low ≡ digitOf (getD l (at + 1) 0) → low < 16 → 16 * high + low ≡ kindOf (drop at l)
+    pub pair-read : at + 2 ≤ length l → high ≡ digitOf (getD l at 0) → high < 16 → low ≡ digitOf (getD l (at + 1) 0) → low < 16 → 16 * high + low ≡ kindOf (drop at l)
     unfolding byteOf
-    pair-read h k e i f j =
+    pair-read h e i f j =
         let c : ℕ = getD l at 0 in
         let d : ℕ = getD l (at + 1) 0 in
         let z : byteOf c d ≡ 16 * digitOf c + digitOf d = simp (lt-ltb (digitOf c) 16 (rw (← e) i), lt-ltb (digitOf d) 16 (rw (← f) j), byteOf) in
-        omega (arith, e, f, z, the-pair h k)
+        omega (arith, e, f, z, the-pair h)
 
   pub pair-most : r ≡ kindOf (drop at l) → r ≤ 256
   pair-most e = rw e (kind-most (drop at l))
@@ -129,11 +130,6 @@ unfolding kindOf numberFrom
 number-on k v [] h = absurd (omega arith)
 number-on k v (c ∷ []) h = absurd (omega arith)
 number-on k v (c ∷ d ∷ cs) h = simp (lt-ltb (byteOf c d) 256 h, numberFrom)
-
-number-more : (v : ℕ) (cs : List ℕ) → 0 < length cs → numberFrom 0 v cs ≡ none
-unfolding numberFrom
-number-more v [] h = absurd (omega arith)
-number-more v (c ∷ cs) h = refl
 
 module _ (l : List ℕ) (at k i value place : ℕ) where
   -- The number of the whole is that of what is left, behind what was read.
@@ -157,16 +153,11 @@ module _ (l : List ℕ) (at k i value place : ℕ) where
       ∙ ap (λ (n : ℕ). numberFrom (k - (i + 1)) (256 * value + n) (drop 2 (drop place l))) (sym p)
       ∙ ap (numberFrom (k - (i + 1)) (256 * value + b)) (drop-drop 2 place l)
 
-  pub number-behind : k ≤ i → NumberSofar → place < length l → Bad ≡ numberRead (number k (drop at l))
-  number-behind h e q =
-      let none-left : k - i ≡ 0 = omega arith in
-      sym (ap numberRead (e ∙ ap (λ (n : ℕ). numberFrom n value (drop place l)) none-left ∙ number-more value (drop place l) (omega (arith, length-drop place l))))
-
-  pub number-whole : k ≤ i → NumberSofar → length l ≤ place → Good value ≡ numberRead (number k (drop at l))
+  pub number-whole : k ≤ i → NumberSofar → length l ≡ at + 2 * k → place ≡ at + 2 * i → Good value ≡ numberRead (number k (drop at l))
   unfolding numberFrom
-  number-whole h e q =
+  number-whole h e m q =
       let none-left : k - i ≡ 0 = omega arith in
-      sym (ap numberRead (e ∙ ap (λ (n : ℕ). numberFrom n value (drop place l)) none-left ∙ ap (numberFrom 0 value) (drop-of-length-le l {i = place} q)))
+      sym (ap numberRead (e ∙ ap (λ (n : ℕ). numberFrom n value (drop place l)) none-left ∙ ap (numberFrom 0 value) (drop-of-length-le l {i = place} (omega arith))))
 
   -- What was read of at most eight pairs fits a word.
   pub number-room : (b : ℕ) → i < k → k ≤ 8 → value < 256 ^ i → b < 256 → 256 * value + b < 256 ^ (i + 1)
@@ -186,6 +177,18 @@ read-good (some y) r x e q = let z : Good y ≡ Good x = sym e ∙ q in cc
 pub read-bad : (o : Option ℕ) (r : Number) → r ≡ numberRead o → r ≡ Bad → o ≡ none
 read-bad none r e q = refl
 read-bad (some y) r e q = let z : Good y ≡ Bad = sym e ∙ q in cc
+
+-- A number that was read has two digits for each of its bytes.
+pub number-long : (k : ℕ) (cs : List ℕ) (r : Number) (x : ℕ) → r ≡ numberRead (number k cs) → r ≡ Good x → length cs ≡ 2 * k
+number-long k cs r x e q = ap length (pairs-number k cs x (read-good (number k cs) r x e q) .0) ∙ length-pairs k x
+
+-- A line of another length has no number.
+pub number-unlike : (l : List ℕ) (at k : ℕ) → 1 ≤ k → (length l ≡ at + 2 * k → ⊥) → Bad ≡ numberRead (number k (drop at l))
+number-unlike l at k h n = go (numberRead (number k (drop at l))) refl
+  where
+    go : (r : Number) → r ≡ numberRead (number k (drop at l)) → Bad ≡ r
+    go Bad e = refl
+    go (Good x) e = absurd (n (omega (arith, number-long k (drop at l) (Good x) x e refl, length-drop at l)))
 
 module _ (t n k : ℕ) (cs : List ℕ) (r : Number) where
   pub whole-number-none : r ≡ numberRead (number k cs) → r ≡ Bad → wholeNumber t n k cs ≡ Refused (BadFrame t n)

@@ -70,16 +70,11 @@ fn digit_of(c: u8) -> u64
     16
 }
 
-// The byte of the pair that begins at a place of the line.
-pub fn pair_at(line: &[u8], at: usize) -> u64
+// The byte of the pair that begins at a place of the line, both its characters within the line.
+fn pair(line: &[u8], at: usize) -> u64
+    requires { ⌜ at + 2 ≤ length (now line) ⌝ }
     ensures { λ r. ⌜ r ≡ kindOf (drop at (now (line .entry))) ⌝ }
 {
-    if line.len() < 2 {
-        return NO_PAIR;
-    }
-    if line.len() - 2 < at {
-        return NO_PAIR;
-    }
     let high = digit_of(line[at]);
     if high >= 16 {
         return NO_PAIR;
@@ -91,25 +86,38 @@ pub fn pair_at(line: &[u8], at: usize) -> u64
     16 * high + low
 }
 
+// The byte of the pair that begins at a place of the line.
+pub fn pair_at(line: &[u8], at: usize) -> u64
+    ensures { λ r. ⌜ r ≡ kindOf (drop at (now (line .entry))) ⌝ }
+{
+    if line.len() < 2 {
+        return NO_PAIR;
+    }
+    if line.len() - 2 < at {
+        return NO_PAIR;
+    }
+    pair(line, at)
+}
+
 // The number of exactly k pairs from a place of the line to its end.
 pub fn number_at(line: &[u8], at: usize, k: usize) -> Number
-    requires { ⌜ k ≤ 8 ⌝ }
+    requires { ⌜ (at ≤ 8) × (1 ≤ k) × (k ≤ 8) ⌝ }
     ensures { λ r. ⌜ r ≡ numberRead (number k (drop at (now (line .entry)))) ⌝ }
 {
+    if line.len() != at + 2 * k {
+        return Number::Bad;
+    }
     let mut value = 0u64;
     let mut i = 0;
     let mut place = at;
     while i < k {
-        let b = pair_at(line, place);
+        let b = pair(line, place);
         if b >= NO_PAIR {
             return Number::Bad;
         }
         value = 256 * value + b;
         place += 2;
         i += 1;
-    }
-    if place < line.len() {
-        return Number::Bad;
     }
     Number::Good(value)
 }

@@ -1,6 +1,6 @@
 -- Laws of all pieces, one behind the other.
-use mathlib.Core.Path.{_≡_, refl, sym, ap, ap₂, _∙_, subst}
-use mathlib.Core.Bool.{true, false}
+use mathlib.Core.Path.{_≡_, refl, sym, ap, ap₂, _∙_}
+use mathlib.Core.Bool.{false}
 use mathlib.Core.List.{List, [], _∷_, _++_, map, map-append, append-nil, append-assoc}
 use Prim.Native.Nat.{ℕ, zero, suc, _+_, _-_, _*_, _<_, _≤_}
 use native.Mathlib.Omega.{arith}
@@ -10,20 +10,18 @@ use mir.Syntax.{w64}
 use lib.ListN.{length, take, drop, getD, length-append, length-drop, take-append-drop}
 use lib.Seq.{take-suc, take-all}
 use borrow.Rule.Slice.PartMut.{midOf, putMid}
-use Rattle.lists.specs.Lists.{Each, splice}
-use Rattle.lists.proofs.Laws.{each-getD, each-map, splice-nothing, splice-splice, length-splice, splice-rest, part-rest}
+use Rattle.lists.specs.Lists.{splice}
+use Rattle.lists.proofs.Laws.{each-getD, splice-nothing, splice-splice, splice-rest, part-rest}
 use Rattle.sets.specs.Sets.{_⊆_}
 use Rattle.sets.proofs.Laws.{subset-trans}
 use Rattle.logic.specs.Expressions.{Expr, Const, written}
-use Rattle.logic.specs.Expressions as Expressions
 use Rattle.logic.specs.Decks.{Deck, Accepted, base}
 use Rattle.logic.specs.Pieces.{split, piece, pieces}
 use Rattle.logic.proofs.Pieces.{PartOf, split-parts, piece-accepted}
 use Rattle.frames.specs.Written.{deckFrames}
 use Rattle.frames.proofs.SizeLaws.{deck-within-text}
-use Rattle.conjuncts.specs.Conjuncts.{Bounded}
 use Rattle.conjuncts.proofs.Laws.{BoundsAt, bounded-at, split-most}
-use Rattle.pieces.specs.Laid.{Laid, Placed, Bound}
+use Rattle.pieces.specs.Laid.{Placed, Bound}
 use Rattle.pieces.specs.Reduced.{allFrames, pieceBytes}
 
 -- ---- the first pieces of a deck

@@ -1,11 +1,11 @@
 -- Laws of one piece: its cone, its initial states and its frames.
-use mathlib.Core.Path.{_≡_, refl, sym, ap, ap₂, _∙_}
-use mathlib.Core.List.{List, [], _∷_}
-use Prim.Native.Nat.{ℕ, zero, suc, _+_, _≤_}
+use mathlib.Core.Path.{_≡_, refl, ap, _∙_}
+use mathlib.Core.List.{List}
+use Prim.Native.Nat.{ℕ, zero, suc, _≤_}
 use native.Mathlib.Omega.{arith}
 use lib.ListN.{length, take}
 use Rattle.lists.specs.Lists.{splice, part}
-use Rattle.logic.specs.Expressions.{Expr, written}
+use Rattle.logic.specs.Expressions.{Expr}
 use Rattle.logic.specs.Decks.{Equation, Deck, base}
 use Rattle.logic.specs.Cones.{cone}
 use Rattle.logic.specs.Pieces.{coneOf, projected, piece}
@@ -15,7 +15,7 @@ use Rattle.terms.proofs.Trees.{variables-code}
 use Rattle.cones.specs.Dependencies.{rows, table}
 use Rattle.frames.specs.Written.{deckFrames}
 use Rattle.texts.specs.Texts.{Lent, deckOf, framesOf}
-use Rattle.pieces.specs.Laid.{Laid, Placed}
+use Rattle.pieces.specs.Laid.{Placed}
 
 pub cone-closed : (deps : List ℕ) (s set c : ℕ) → set ≡ s → ((qs : List Equation) → deps ≡ table qs → c ≡ cone qs set) → (qs : List Equation) → deps ≡ table qs → c ≡ cone qs s
 cone-closed deps s set c w f qs t = f qs t ∙ ap (cone qs) w

@@ -2,7 +2,7 @@
 use decks::Answer;
 ghost use mathlib.Core.Path.{_≡_};
 ghost use mathlib.Core.List.{List};
-ghost use Prim.Native.Nat.{ℕ, _≤_};
+ghost use Prim.Native.Nat.{_≤_};
 ghost use lib.ListN.{length};
 ghost use Rattle.lists.specs.Lists.{splice, part};
 ghost use Rattle.logic.specs.Expressions.{Expr};
@@ -11,7 +11,8 @@ ghost use Rattle.logic.specs.Cones.{cone};
 ghost use Rattle.logic.specs.Pieces.{piece};
 ghost use Rattle.terms.specs.Nodes.{variablesOf};
 ghost use Rattle.cones.specs.Dependencies.{table};
-ghost use Rattle.decks.specs.Stored.{stored};
+ghost use Rattle.decks.specs.Answers.{Got};
+ghost use Rattle.decks.specs.Stored.{DeckCame};
 ghost use Rattle.frames.specs.Written.{deckFrames};
 ghost use Rattle.pieces.specs.Laid.{Placed, Bound};
 ghost use Rattle.pieces.specs.Reduced.{pieceBytes, reduced, reducedInto};
@@ -119,8 +120,8 @@ fn pieces_size<'a>(
     let mut i = 0;
     let mut n = 0;
     while i < count {
-        let from = conjuncts::place_at(bounds, 2 * i);
-        let to = conjuncts::place_at(bounds, 2 * i + 1);
+        let from = decks::place_at(bounds, 2 * i);
+        let to = decks::place_at(bounds, 2 * i + 1);
         n += piece_size(
             deps,
             inits,
@@ -158,8 +159,8 @@ fn write_pieces<'a>(
     let mut i = 0;
     let mut used = 0;
     while i < count {
-        let from = conjuncts::place_at(bounds, 2 * i);
-        let to = conjuncts::place_at(bounds, 2 * i + 1);
+        let from = decks::place_at(bounds, 2 * i);
+        let to = decks::place_at(bounds, 2 * i + 1);
         let n = write_piece(
             deps,
             inits,
@@ -180,23 +181,31 @@ fn write_pieces<'a>(
 }
 
 // All pieces of a deck into a buffer; 17 with the bytes of all of them, and no byte changed, where it has no room.
-pub fn reduce(d: decks::Deck, out: &mut [u8]) -> Reduced
-    requires { ⌜ ((D : Deck) × Accepted base D × (d ≡ stored D)) ⌝ }
-    ensures { λ r. ⌜ ((D : Deck) → Accepted base D → d ≡ stored D → (r ≡ reduced D (length (now (out .entry)))) × (now (out .exit) ≡ reducedInto D (now (out .entry)))) ⌝ }
+pub fn reduce<'a>(
+    read: decks::DeckRead,
+    inits: &'a [u64],
+    lefts: &'a [u16],
+    ends: &'a [u16],
+    nodes: &'a [u16],
+    property: &'a [u16],
+    out: &mut [u8],
+) -> Reduced
+    requires { ⌜ ((D : Deck) × Accepted base D × DeckCame (Got D) read (now inits) (now lefts) (now ends) (now nodes) (now property)) ⌝ }
+    ensures { λ r. ⌜ ((D : Deck) → Accepted base D → DeckCame (Got D) read (now (inits .entry)) (now (lefts .entry)) (now (ends .entry)) (now (nodes .entry)) (now (property .entry)) → (r ≡ reduced D (length (now (out .entry)))) × (now (out .exit) ≡ reducedInto D (now (out .entry)))) ⌝ }
 {
     let mut bounds = [0u16; decks::PROPERTY_NODES];
-    let count = conjuncts::split_property(&d.property, d.size, &mut bounds);
+    let count = conjuncts::split_property(property, read.size, &mut bounds);
     let mut deps = [0u64; decks::VARIABLES];
-    cones::dependencies(&d.lefts, &d.ends, &d.nodes, d.equations, &mut deps);
+    cones::dependencies(lefts, ends, nodes, read.equations, &mut deps);
     let needed = pieces_size(
         &deps,
-        &d.inits,
-        d.initials,
-        &d.lefts,
-        &d.ends,
-        &d.nodes,
-        d.equations,
-        &d.property,
+        inits,
+        read.initials,
+        lefts,
+        ends,
+        nodes,
+        read.equations,
+        property,
         &bounds,
         count,
     );
@@ -209,13 +218,13 @@ pub fn reduce(d: decks::Deck, out: &mut [u8]) -> Reduced
     }
     let n = write_pieces(
         &deps,
-        &d.inits,
-        d.initials,
-        &d.lefts,
-        &d.ends,
-        &d.nodes,
-        d.equations,
-        &d.property,
+        inits,
+        read.initials,
+        lefts,
+        ends,
+        nodes,
+        read.equations,
+        property,
         &bounds,
         count,
         out,

@@ -12,15 +12,14 @@ use borrow.Author.Tests.{lt-ltb, le-ltb, eq-eqb, ne-eqb, eqb-true, not-false}
 use Rattle.lists.specs.Lists.{stands, padded, ended, unended}
 use Rattle.lists.proofs.Laws.{padded-nil}
 use Rattle.sets.specs.Sets.{has, inside, without, lowestOf}
-use Rattle.logic.specs.Expressions.{Expr, nodes, written, temporal, code}
+use Rattle.logic.specs.Expressions.{Expr, nodes, written, temporal}
 use Rattle.logic.specs.Decks.{Equation, Deck, totalNodes}
 use Rattle.decks.specs.declared.Answer.{Answer}
 use Rattle.decks.specs.declared.Answer.the-variants.{Fine, TooLong, BadFrame, NoEquation}
 use Rattle.decks.specs.declared.DeckRead.{DeckRead}
-use Rattle.decks.specs.declared.Deck.{Deck as Stored}
 use Rattle.decks.specs.Answers.{Outcome, Got, Refused, refuse, afterwards}
-use Rattle.decks.specs.Stored.{leftsOf, endsOf, codes, HoldsEquations, blank, deckRead}
-use Rattle.decks.proofs.Stored.{length-codes}
+use Rattle.decks.specs.Stored.{leftsOf, endsOf, codes, HoldsEquations, Blank, deckRead, DeckCame}
+use Rattle.decks.proofs.Stored.{length-codes, refused-came}
 use Rattle.decks.proofs.Complete.{complete-none, complete-some}
 use Rattle.frames.specs.Hex.{byteOf}
 use Rattle.frames.specs.Read.{Due, DueSet, DueInit, DueAny, DueEquation, DueCount, DueNone, Sofar, begun, kindOf, wholeNumber, wholeExpr, setLine, initLine, lastLeft, withEquation, equationLine, propertyLine, countLine, permits, frameLine, deckLine, deckEnd, readDeck}
@@ -365,10 +364,9 @@ module _ (line : List ℕ) (n k : ℕ) (b : Bool) (h : Held) (s : Sofar) where
 pub kind-within : (line : List ℕ) (k : ℕ) → k ≡ kindOf line → k ≡ 4 → 2 ≤ length line
 kind-within line k e h = pair-inside line 0 k e (omega arith)
 
--- A refusal with the deck of zeros beside it.
--- What is returned from what is held and the arrays.
-abbrev found : Held → List ℕ → List ℕ → List ℕ → List ℕ → List ℕ → DeckRead
-found h inits lefts ends nodes property = record { answer = Fine; deck = record { vars = h .vars; inits = inits; initials = h .initials; lefts = lefts; ends = ends; equations = h .equations; nodes = nodes; property = property; size = h .size } }
+-- What is returned from what is held.
+abbrev found : Held → DeckRead
+found h = record { answer = Fine; vars = h .vars; initials = h .initials; equations = h .equations; size = h .size }
 
 -- ---- from line to line
 
@@ -401,14 +399,17 @@ rest-line n t line more s e u =
 
 -- ---- the arrays at their lengths
 
-pub zeros-long : Long (replicate 64 0) (replicate 256 0) (replicate 256 0) (replicate 2048 0) (replicate 128 0)
-zeros-long =
+zeros-length : (n : ℕ) (row : List ℕ) → row ≡ replicate n 0 → length row ≡ n
+zeros-length n row e = ap (λ (l : List ℕ). length l) e ∙ length-replicate {A = ℕ} n 0
+
+pub blank-long : (inits lefts ends nodes′ property : List ℕ) → Blank inits lefts ends nodes′ property → Long inits lefts ends nodes′ property
+blank-long inits lefts ends nodes′ property b =
     record {
-      inits-long = length-replicate {A = ℕ} 64 0;
-      lefts-long = length-replicate {A = ℕ} 256 0;
-      ends-long = length-replicate {A = ℕ} 256 0;
-      nodes-long = length-replicate {A = ℕ} 2048 0;
-      property-long = length-replicate {A = ℕ} 128 0;
+      inits-long = zeros-length 64 inits (b .inits-zero);
+      lefts-long = zeros-length 256 lefts (b .lefts-zero);
+      ends-long = zeros-length 256 ends (b .ends-zero);
+      nodes-long = zeros-length 2048 nodes′ (b .nodes-zero);
+      property-long = zeros-length 128 property (b .property-zero);
     }
 
 -- What is stored in a row of n places has at most n.
@@ -436,22 +437,22 @@ whole-end DueCount d h = absurd (omega (arith, h))
 whole-end DueNone d h = (refl, refl)
 
 module _ (text : List ℕ) where
-  pub too-long : (r : DeckRead) → 64800 < length text → r ≡ deckRead (Refused (TooLong 1)) → r ≡ deckRead (readDeck text)
+  pub too-long : (inits lefts ends nodes′ property : List ℕ) (r : DeckRead) → 64800 < length text → r ≡ deckRead (Refused (TooLong 1)) → DeckCame (readDeck text) r inits lefts ends nodes′ property
   unfolding readDeck
-  too-long r h q = let z : readDeck text ≡ Refused (TooLong 1) = simp (lt-ltb 64800 (length text) h, readDeck) in q ∙ ap deckRead (sym z)
+  too-long inits lefts ends nodes′ property r h q = refused-came (readDeck text) (TooLong 1) r inits lefts ends nodes′ property q (simp (lt-ltb 64800 (length text) h, readDeck))
 
-  pub reached-begun : (h : Held) → length text ≤ 64800 → h ≡ heldOf begun → Reached text (replicate 64 0) (replicate 256 0) (replicate 256 0) (replicate 2048 0) (replicate 128 0) h 0 1
+  pub reached-begun : (inits lefts ends nodes′ property : List ℕ) (h : Held) → Blank inits lefts ends nodes′ property → length text ≤ 64800 → h ≡ heldOf begun → Reached text inits lefts ends nodes′ property h 0 1
   unfolding readDeck endsOf codes
-  reached-begun h l e =
+  reached-begun inits lefts ends nodes′ property h b l e =
       record {
         sofar = begun;
         held-is = e;
         arrays-hold =
             record {
               empty-before = (refl, refl);
-              inits-are = sym (padded-nil 64);
-              equations-are = record { lefts-are = sym (padded-nil 256); ends-are = sym (padded-nil 256); nodes-are = sym (padded-nil 2048); count-is = refl };
-              property-is = refl;
+              inits-are = b .inits-zero ∙ sym (padded-nil 64);
+              equations-are = record { lefts-are = b .lefts-zero ∙ sym (padded-nil 256); ends-are = b .ends-zero ∙ sym (padded-nil 256); nodes-are = b .nodes-zero ∙ sym (padded-nil 2048); count-is = refl };
+              property-is = b .property-zero;
             };
         rest-is = simp (le-ltb 64800 (length text) l, readDeck);
       }
@@ -475,13 +476,12 @@ module _ (text : List ℕ) where
     rest-none d e = d .rest-is ∙ ap (λ (l : List (List ℕ)). afterwards (walk deckLine n l (d .sofar)) (λ u. deckEnd (unended (drop at text)) u)) e
 
     module _ (end : ℕ) where
-      pub reached-early : (r : DeckRead) → Reached text inits lefts ends nodes′ property held at n → at < length text → end ≡ at + lineLength (drop at text) → end ≡ length text → r ≡ deckRead (Refused (BadFrame 1 0)) → r ≡ deckRead (readDeck text)
+      pub reached-early : (r : DeckRead) → Reached text inits lefts ends nodes′ property held at n → at < length text → end ≡ at + lineLength (drop at text) → end ≡ length text → r ≡ deckRead (Refused (BadFrame 1 0)) → DeckCame (readDeck text) r inits lefts ends nodes′ property
       unfolding deckEnd
       reached-early r d h e i q =
           let l : length text ≤ end = omega arith in
           let m : at ≤ length text = omega arith in
-          let z : readDeck text ≡ Refused (BadFrame 1 0) = rest-none d (ended-last text at end e l m) ∙ ap (λ (l : List ℕ). deckEnd l (d .sofar)) (unended-last text at end e l m ∙ drop-cons text at 0 h) in
-          q ∙ ap deckRead (sym z)
+          refused-came (readDeck text) (BadFrame 1 0) r inits lefts ends nodes′ property q (rest-none d (ended-last text at end e l m) ∙ ap (λ (l : List ℕ). deckEnd l (d .sofar)) (unended-last text at end e l m ∙ drop-cons text at 0 h))
 
       module _ (r : LineRead) (inits″ lefts″ ends″ nodes″ property″ : List ℕ) where
         the-line : (d : Here) → end ≡ at + lineLength (drop at text) → end < length text → at ≤ end → readDeck text ≡ onward (n + 1) (drop (end + 1) text) (deckLine n (take (end - at) (drop at text)) (d .sofar))
@@ -502,8 +502,8 @@ module _ (text : List ℕ) where
             let h : end < length text = lt-of-le-ne end (length text) (t .end-within) (t .end-before) in
             (deckLine n (take (end - at) (drop at text)) (d .sofar), t .line-came (d .sofar) (d .held-is) (d .arrays-hold), the-line d (t .end-is) h (t .begins-before))
 
-        pub reached-refused : (x : DeckRead) → Turn → not (r .fine) ≡ true → x ≡ deckRead (Refused (r .answer)) → x ≡ deckRead (readDeck text)
-        reached-refused x t f q = let w = turned t in q ∙ ap deckRead (sym (w .2 ∙ go (w .0) (w .1)))
+        pub reached-refused : (x : DeckRead) → Turn → not (r .fine) ≡ true → x ≡ deckRead (Refused (r .answer)) → DeckCame (readDeck text) x inits″ lefts″ ends″ nodes″ property″
+        reached-refused x t f q = let w = turned t in refused-came (readDeck text) (r .answer) x inits″ lefts″ ends″ nodes″ property″ q (w .2 ∙ go (w .0) (w .1))
           where
             go : (o : Outcome Sofar) → Came o r inits″ lefts″ ends″ nodes″ property″ → onward (n + 1) (drop (end + 1) text) o ≡ Refused (r .answer)
             go (Got s) y = false-true (ap (λ (w : LineRead). not (w .fine)) (sym (y .line-is)) ∙ f)
@@ -523,8 +523,8 @@ module _ (text : List ℕ) where
     due-is : (d : Here) → held .due ≡ dueNumber (d .sofar .due)
     due-is d = ap (λ (x : Held). x .due) (d .held-is)
 
-    pub reached-unfinished : (r : DeckRead) → Reached text inits lefts ends nodes′ property held at n → length text ≤ at → (held .due ≡ 5 → ⊥) → r ≡ deckRead (Refused (BadFrame 1 0)) → r ≡ deckRead (readDeck text)
-    reached-unfinished r d h i q = q ∙ ap deckRead (sym (behind d h ∙ early-end (d .sofar .due) (d .sofar .deck) (λ z. i (due-is d ∙ z))))
+    pub reached-unfinished : (r : DeckRead) → Reached text inits lefts ends nodes′ property held at n → length text ≤ at → (held .due ≡ 5 → ⊥) → r ≡ deckRead (Refused (BadFrame 1 0)) → DeckCame (readDeck text) r inits lefts ends nodes′ property
+    reached-unfinished r d h i q = refused-came (readDeck text) (BadFrame 1 0) r inits lefts ends nodes′ property q (behind d h ∙ early-end (d .sofar .due) (d .sofar .deck) (λ z. i (due-is d ∙ z)))
 
     module _ (m : ℕ) where
       uncovered : (d : Here) → m ≡ without (held .vars) (held .covered) → m ≡ without (d .sofar .deck .vars) (leftSet (d .sofar .deck .equations))
@@ -533,21 +533,23 @@ module _ (text : List ℕ) where
       whole : (d : Here) → length text ≤ at → held .due ≡ 5 → (d .sofar .due ≡ DueNone) × (readDeck text ≡ complete (d .sofar .deck))
       whole d h i = let w = whole-end (d .sofar .due) (d .sofar .deck) (sym (due-is d) ∙ i) in (w .0, behind d h ∙ w .1)
 
-      pub reached-missing : (v : ℕ) (r : DeckRead) → Reached text inits lefts ends nodes′ property held at n → length text ≤ at → held .due ≡ 5 → m ≡ without (held .vars) (held .covered) → (m ≡ 0 → ⊥) → v ≡ lowestOf m → r ≡ deckRead (Refused (NoEquation v)) → r ≡ deckRead (readDeck text)
-      reached-missing v r d h i e k l q = q ∙ ap (λ (x : ℕ). deckRead (Refused (NoEquation x))) l ∙ ap deckRead (sym (whole d h i .1 ∙ complete-some (d .sofar .deck) m (uncovered d e) k))
+      pub reached-missing : (v : ℕ) (r : DeckRead) → Reached text inits lefts ends nodes′ property held at n → length text ≤ at → held .due ≡ 5 → m ≡ without (held .vars) (held .covered) → (m ≡ 0 → ⊥) → v ≡ lowestOf m → r ≡ deckRead (Refused (NoEquation v)) → DeckCame (readDeck text) r inits lefts ends nodes′ property
+      reached-missing v r d h i e k l q =
+          refused-came (readDeck text) (NoEquation v) r inits lefts ends nodes′ property q
+          (whole d h i .1 ∙ complete-some (d .sofar .deck) m (uncovered d e) k ∙ ap (λ (x : ℕ). Refused (NoEquation x)) (sym l))
 
-      pub reached-done : Reached text inits lefts ends nodes′ property held at n → length text ≤ at → held .due ≡ 5 → m ≡ without (held .vars) (held .covered) → m ≡ 0 → record { answer = Fine; deck = record { vars = held .vars; inits = inits; initials = held .initials; lefts = lefts; ends = ends; equations = held .equations; nodes = nodes′; property = property; size = held .size } } ≡ deckRead (readDeck text)
+      pub reached-done : Reached text inits lefts ends nodes′ property held at n → length text ≤ at → held .due ≡ 5 → m ≡ without (held .vars) (held .covered) → m ≡ 0 → DeckCame (readDeck text) (found held) inits lefts ends nodes′ property
       reached-done d h i e k =
           let D : Deck = d .sofar .deck in
           let w = whole d h i in
           let a = d .arrays-hold in
-          let q = a .equations-are in
-          let p : property ≡ padded 128 (code (D .property)) = a .property-is ∙ ap (λ (u : Due). propertyOf u (D .property)) (w .0) in
-          let z : held ≡ heldOf (record { due = DueNone; deck = D }) = d .held-is ∙ ap (λ (u : Due). heldOf (record { due = u; deck = D })) (w .0) in
-          ap (λ (x : Held). found x inits lefts ends nodes′ property) z
-          ∙ ap (λ (x : List ℕ). found (heldOf (record { due = DueNone; deck = D })) x lefts ends nodes′ property) (a .inits-are)
-          ∙ ap (λ (x : List ℕ). found (heldOf (record { due = DueNone; deck = D })) (padded 64 (D .inits)) x ends nodes′ property) (q .lefts-are)
-          ∙ ap (λ (x : List ℕ). found (heldOf (record { due = DueNone; deck = D })) (padded 64 (D .inits)) (padded 256 (leftsOf (D .equations))) x nodes′ property) (q .ends-are)
-          ∙ ap (λ (x : List ℕ). found (heldOf (record { due = DueNone; deck = D })) (padded 64 (D .inits)) (padded 256 (leftsOf (D .equations))) (padded 256 (endsOf 0 (D .equations))) x property) (q .nodes-are)
-          ∙ ap (λ (x : List ℕ). found (heldOf (record { due = DueNone; deck = D })) (padded 64 (D .inits)) (padded 256 (leftsOf (D .equations))) (padded 256 (endsOf 0 (D .equations))) (padded 2048 (codes (D .equations))) x) p
-          ∙ ap deckRead (sym (w .1 ∙ complete-none D m (uncovered d e) k))
+          subst (λ (o : Outcome Deck). DeckCame o (found held) inits lefts ends nodes′ property) (sym (w .1 ∙ complete-none D m (uncovered d e) k))
+          (record {
+            read-is = ap found (d .held-is ∙ ap (λ (u : Due). heldOf (record { due = u; deck = D })) (w .0));
+            rows-hold =
+                record {
+                  inits-are = a .inits-are;
+                  equations-are = a .equations-are;
+                  property-is = a .property-is ∙ ap (λ (u : Due). propertyOf u (D .property)) (w .0);
+                };
+          })

@@ -5,7 +5,7 @@ ghost use Prim.Native.Nat.{_≤_};
 ghost use lib.Dec.{eqb};
 ghost use lib.ListN.{drop};
 ghost use Rattle.decks.specs.Answers.{Refused};
-ghost use Rattle.decks.specs.Stored.{deckRead};
+ghost use Rattle.decks.specs.Stored.{Blank, DeckCame};
 ghost use Rattle.frames.specs.Written.{equationKind, propertyKind};
 ghost use Rattle.frames.specs.Read.{Due, DueCount, DueNone, Sofar, countLine, permits, deckLine, readDeck};
 ghost use Rattle.decklines.specs.Held.{dueNumber, heldOf, lineOf};
@@ -117,18 +117,21 @@ fn deck_line(
     count_line(line, n, h)
 }
 
-// A text read as a deck.
-pub fn read_deck(text: &[u8]) -> decks::DeckRead
-    ensures { λ r. ⌜ r ≡ deckRead (readDeck (now (text .entry))) ⌝ }
+// A text read as a deck, into rows of zeros.
+pub fn read_deck(
+    text: &[u8],
+    inits: &mut [u64],
+    lefts: &mut [u16],
+    ends: &mut [u16],
+    nodes: &mut [u16],
+    property: &mut [u16],
+) -> decks::DeckRead
+    requires { ⌜ Blank (now inits) (now lefts) (now ends) (now nodes) (now property) ⌝ }
+    ensures { λ r. ⌜ DeckCame (readDeck (now (text .entry))) r (now (inits .exit)) (now (lefts .exit)) (now (ends .exit)) (now (nodes .exit)) (now (property .exit)) ⌝ }
 {
     if text.len() > decks::TEXT {
         return decks::refused(decks::Answer::TooLong(DECK_TEXT));
     }
-    let mut inits = [0u64; decks::INITIALS * decks::WORDS];
-    let mut lefts = [0u16; decks::EQUATIONS];
-    let mut ends = [0u16; decks::EQUATIONS];
-    let mut nodes = [0u16; decks::EQUATION_NODES];
-    let mut property = [0u16; decks::PROPERTY_NODES];
     let mut held = decklines::nothing();
     let mut at = 0;
     let mut n = 1u64;
@@ -137,16 +140,7 @@ pub fn read_deck(text: &[u8]) -> decks::DeckRead
         if end == text.len() {
             return decks::refused(decks::Answer::BadFrame(DECK_TEXT, 0));
         }
-        let r = deck_line(
-            &text[at..end],
-            n,
-            held,
-            &mut inits,
-            &mut lefts,
-            &mut ends,
-            &mut nodes,
-            &mut property,
-        );
+        let r = deck_line(&text[at..end], n, held, inits, lefts, ends, nodes, property);
         if !r.fine {
             let a = r.answer;
             return decks::refused(a);
@@ -164,16 +158,9 @@ pub fn read_deck(text: &[u8]) -> decks::DeckRead
     }
     decks::DeckRead {
         answer: decks::Answer::Fine,
-        deck: decks::Deck {
-            vars: held.vars,
-            inits: inits,
-            initials: held.initials,
-            lefts: lefts,
-            ends: ends,
-            equations: held.equations,
-            nodes: nodes,
-            property: property,
-            size: held.size,
-        },
+        vars: held.vars,
+        initials: held.initials,
+        equations: held.equations,
+        size: held.size,
     }
 }

@@ -1,12 +1,10 @@
 -- Laws of the operations: what they may rely on where a deck was read, and one law for each way that they return.
-use mathlib.Core.Path.{_≡_, refl, sym, ap, _∙_, subst}
+use mathlib.Core.Path.{_≡_, refl, sym, ap, ap₂, _∙_, subst}
 use mathlib.Core.List.{List, [], _∷_}
-use Prim.Native.Nat.{ℕ, zero, suc, _+_, _-_, _<_, _≤_}
+use Prim.Native.Nat.{ℕ, _+_, _<_, _≤_}
 use native.Mathlib.Omega.{arith}
 use lib.ListN.{length, take, set, replicate, length-replicate}
 use lib.Seq.{length-take-le}
-use Rattle.lists.specs.Lists.{padded}
-use Rattle.lists.proofs.Laws.{take-padded, length-padded}
 use Rattle.logic.specs.Decks.{Deck, Accepted, base}
 use Rattle.logic.specs.Meaning.{Claim, Sized}
 use Rattle.logic.specs.Verdicts.{verdict}
@@ -16,7 +14,8 @@ use Rattle.decks.specs.declared.Deck.{Deck as Stored}
 use Rattle.decks.specs.declared.DeckRead.{DeckRead}
 use Rattle.decks.specs.declared.ClaimRead.{ClaimRead}
 use Rattle.decks.specs.Answers.{Outcome, Got, Refused, replyOf}
-use Rattle.decks.specs.Stored.{stored, deckRead, claimRead}
+use Rattle.decks.specs.Stored.{HoldsEquations, stored, blank, deckRead, claimRead, DeckCame, ClaimCame}
+use Rattle.decks.proofs.Stored.{storedIn, came-stored, came-equations}
 use Rattle.texts.specs.declared.Written.{Written}
 use Rattle.texts.specs.Texts.{deckWritten}
 use Rattle.cones.specs.declared.ConeRead.{ConeRead}
@@ -29,12 +28,13 @@ use Rattle.pieces.specs.Reduced.{reduced, reducedInto}
 use Rattle.truths.specs.Worked.{claimOf}
 use Rattle.steps.specs.Steps.{Zeros}
 use Rattle.claims.specs.Checked.{verdictAnswer, claimChecked, deckChecked, checked}
+use Rattle.claims.proofs.Verdict.{claim-lent, zeros-all, zeros-part}
 use Rattle.cards.specs.Read.{readCards}
 use Rattle.cards.proofs.NothingDropped.{cards-accepted}
 use Rattle.station.specs.declared.DeckReply.{DeckReply}
 use Rattle.station.specs.declared.CountReply.{CountReply}
 use Rattle.station.specs.Promises.{deckReply, countReply, readReply, writeReply, writeBuffer, reduceReply, reduceBuffer, coneReply}
-use Rattle.station.specs.Readable.{Readable}
+use Rattle.station.specs.Readable.{Readable, Idle}
 use Rattle.station.specs.Exported.{packed, packedReply, Exported}
 use Rattle.station.proofs.Numbered.{Numbered, fault}
 use Rattle.station.proofs.NumberedCards.{cards-numbered}
@@ -54,9 +54,58 @@ deck-replied a d r e = ap (withDeck d) e
 pub counts-replied : (a : Answer) (x y : ℕ) (r : Reply) → r ≡ replyOf a → withCounts x y r ≡ countReply a x y
 counts-replied a x y r e = ap (withCounts x y) e
 
-pub reading-replied : (read : DeckRead) (r : DeckReply) → r ≡ deckReply (read .answer) (read .deck) → (o : Outcome Deck) → read ≡ deckRead o → r ≡ readReply o
-reading-replied read r e (Got d) f = e ∙ ap (λ (x : DeckRead). deckReply (x .answer) (x .deck)) f
-reading-replied read r e (Refused a) f = e ∙ ap (λ (x : DeckRead). deckReply (x .answer) (x .deck)) f
+-- ---- claims in lent rows
+
+-- A claim that was read.
+abbrev Claimed : ClaimRead → List ℕ → Type 0
+Claimed m states = (M : Claim) × Sized base M × ClaimCame (Got M) m states
+
+-- The claim of the states lent.
+its-claim : (M : Claim) (m : ClaimRead) (states : List ℕ) → Sized base M → ClaimCame (Got M) m states → claimOf (m .p) (take (m .p + m .c) states) ≡ M
+its-claim M m states ok came =
+    ap (λ (x : ClaimRead). claimOf (x .p) (take (x .p + x .c) states)) (came .read-is)
+    ∙ ap (λ (l : List ℕ). claimOf (M .p) (take (M .p + M .c) l)) (came .row-holds .0)
+    ∙ claim-lent (length states) M ok
+
+-- The first of a row of zeros are zeros.
+zeros-first : (k n : ℕ) (row : List ℕ) → row ≡ replicate n 0 → Zeros (take k row)
+zeros-first k n row e = zeros-part k row (subst Zeros (sym e) (zeros-all n))
+
+module _ (m : ClaimRead) (states : List ℕ) (r : Claimed m states) where
+  pub count-most : m .p + m .c ≤ base .states
+  count-most = let (M, ok, e) = r in omega (arith, ok .most, ap (λ (x : ClaimRead). x .p) (e .read-is), ap (λ (x : ClaimRead). x .c) (e .read-is))
+
+  pub states-within : m .p + m .c ≤ length states
+  states-within = let (M, ok, e) = r in omega (arith, ok .all, e .row-holds .1, ap (λ (x : ClaimRead). x .p) (e .read-is), ap (λ (x : ClaimRead). x .c) (e .read-is))
+
+  pub first-long : (row : List ℕ) → m .p + m .c ≤ length row → m .p + m .c ≡ length (take (m .p + m .c) row)
+  first-long row h = sym (length-take-le (m .p + m .c) row h)
+
+  -- The rows to work in, as they were lent.
+  module _ (states₀ words marks : List ℕ) (idle : Idle states₀ words marks) (long : length states ≡ length states₀) where
+    row-long : (row : List ℕ) → row ≡ replicate (length states₀) 0 → length row ≡ length states
+    row-long row e = ap (λ (l : List ℕ). length l) e ∙ length-replicate {A = ℕ} (length states₀) 0 ∙ sym long
+
+    pub words-within : m .p + m .c ≤ length words
+    words-within = omega (arith, states-within, row-long words (idle .words-zero))
+
+    pub marks-within : m .p + m .c ≤ length marks
+    marks-within = omega (arith, states-within, row-long marks (idle .marks-zero))
+
+    pub verdict-asked : (m .p < length (take (m .p + m .c) states))
+        × Zeros (take (m .p + m .c) words)
+        × Zeros (take (m .p + m .c) marks)
+        × (length (take (m .p + m .c) words) ≡ length (take (m .p + m .c) states))
+        × (length (take (m .p + m .c) marks) ≡ length (take (m .p + m .c) states))
+    verdict-asked =
+        let (M, ok, e) = r in
+        let all = first-long states states-within in (
+          omega (arith, all, ok .some, ap (λ (x : ClaimRead). x .c) (e .read-is)),
+          zeros-first (m .p + m .c) (length states₀) words (idle .words-zero),
+          zeros-first (m .p + m .c) (length states₀) marks (idle .marks-zero),
+          sym (first-long words words-within) ∙ all,
+          sym (first-long marks marks-within) ∙ all,
+        )
 
 -- ---- what was read
 
@@ -70,217 +119,176 @@ cards-readable text = readable (readCards text) (cards-numbered text) (cards-acc
 pub frames-readable : (text : List ℕ) → Readable (readDeck text)
 frames-readable text = readable (readDeck text) (deck-numbered text) (deck-read-accepted text)
 
--- What was read of a text of cards, or of frames.
-abbrev pub cards-read : (text : List ℕ) (read : DeckRead) → read ≡ deckRead (readCards text) → (o : Outcome Deck) × Readable o × (read ≡ deckRead o)
-cards-read text read e = (readCards text, cards-readable text, e)
-
-abbrev pub frames-read : (text : List ℕ) (read : DeckRead) → read ≡ deckRead (readDeck text) → (o : Outcome Deck) × Readable o × (read ≡ deckRead o)
-frames-read text read e = (readDeck text, frames-readable text, e)
-
 pub checked-is : (deck claim : List ℕ) → replyOf (deckChecked (readDeck deck) claim) ≡ replyOf (checked deck claim)
 unfolding checked
 checked-is deck claim = refl
 
-module _ (read : DeckRead) (a : Reply) (is : a ≡ replyOf (read .answer)) where
-  -- A reading with number 0 has an accepted deck.
-  pub deck-there : a .number ≡ 0 → (o : Outcome Deck) × Readable o × (read ≡ deckRead o) → (D : Deck) × Accepted base D × (read .deck ≡ stored D)
-  deck-there z (o, ok, e) = go o ok e
-    where
-      go : (o : Outcome Deck) → Readable o → read ≡ deckRead o → (D : Deck) × Accepted base D × (read .deck ≡ stored D)
-      go (Got d) h f = (d, h, ap (λ (x : DeckRead). x .deck) f)
-      go (Refused b) h f = absurd (omega (arith, h, z, ap (λ (x : Reply). x .number) is, ap (λ (x : DeckRead). replyOf (x .answer) .number) f))
+module _ (read : DeckRead) (inits lefts ends nodes property : List ℕ) where
+  abbrev Came : Outcome Deck → Type 0
+  Came o = DeckCame o read inits lefts ends nodes property
 
-  pub deck-there-stored : a .number ≡ 0 → (o : Outcome Deck) × Readable o × (read ≡ deckRead o) → (D : Deck) × (read .deck ≡ stored D) × Accepted base D
-  deck-there-stored z r = let (D, ok, e) = deck-there z r in (D, e, ok)
+  abbrev There : Type 0
+  There = (D : Deck) × Accepted base D × Came (Got D)
 
-  -- ---- writing
+  -- What was read of a text of cards, or of frames.
+  abbrev pub cards-read : (text : List ℕ) → Came (readCards text) → (o : Outcome Deck) × Readable o × Came o
+  cards-read text e = (readCards text, cards-readable text, e)
 
-  pub write-refused : (out : List ℕ) (r : CountReply)
-      → (a .number ≡ 0 → ⊥)
-      → r ≡ withCounts 0 0 a
-      → (o : Outcome Deck)
-      → Readable o
-      → read ≡ deckRead o
-      → (r ≡ writeReply o out) × (out ≡ writeBuffer o out)
-  write-refused out r n e (Got d) h f = absurd (n (ap (λ (x : Reply). x .number) is ∙ ap (λ (x : DeckRead). replyOf (x .answer) .number) f))
-  write-refused out r n e (Refused b) h f = (e ∙ ap (withCounts 0 0) is ∙ ap (λ (x : DeckRead). countReply (x .answer) 0 0) f, refl)
+  abbrev pub frames-read : (text : List ℕ) → Came (readDeck text) → (o : Outcome Deck) × Readable o × Came o
+  frames-read text e = (readDeck text, frames-readable text, e)
 
-  pub write-done : (out after : List ℕ) (w : Written) (r : CountReply)
-      → a .number ≡ 0
-      → ((D : Deck) → Accepted base D → read .deck ≡ stored D → (w ≡ deckWritten D out .report) × (after ≡ deckWritten D out .buffer))
-      → r ≡ countReply (w .answer) (w .bytes) 0
-      → (o : Outcome Deck)
-      → Readable o
-      → read ≡ deckRead o
-      → (r ≡ writeReply o out) × (after ≡ writeBuffer o out)
-  write-done out after w r z g e (Got d) h f =
-      let (report, buffer) = g d h (ap (λ (x : DeckRead). x .deck) f) in (e ∙ ap (λ (x : Written). countReply (x .answer) (x .bytes) 0) report, buffer)
-  write-done out after w r z g e (Refused b) h f =
-      absurd (omega (arith, h, z, ap (λ (x : Reply). x .number) is, ap (λ (x : DeckRead). replyOf (x .answer) .number) f))
+  module _ (a : Reply) (is : a ≡ replyOf (read .answer)) where
+    -- A deck has the number 0, a refusal has another.
+    number-fine : (d : Deck) → Came (Got d) → a .number ≡ 0
+    number-fine d f = ap (λ (x : Reply). x .number) is ∙ ap (λ (x : DeckRead). replyOf (x .answer) .number) (f .read-is)
 
-  -- ---- cones
+    number-other : (b : Answer) → Readable (Refused b) → Came (Refused b) → a .number ≡ 0 → ⊥
+    number-other b h f z = omega (arith, h, z, ap (λ (x : Reply). x .number) is, ap (λ (x : DeckRead). replyOf (x .answer) .number) (f .read-is))
 
-  pub cone-refused : (s : ℕ) (r : CountReply) → (a .number ≡ 0 → ⊥) → r ≡ withCounts 0 0 a → (o : Outcome Deck) → Readable o → read ≡ deckRead o → r ≡ coneReply o s
-  cone-refused s r n e (Got d) h f = absurd (n (ap (λ (x : Reply). x .number) is ∙ ap (λ (x : DeckRead). replyOf (x .answer) .number) f))
-  cone-refused s r n e (Refused b) h f = e ∙ ap (withCounts 0 0) is ∙ ap (λ (x : DeckRead). countReply (x .answer) 0 0) f
+    refusal-is : (b : Answer) → Came (Refused b) → a ≡ replyOf b
+    refusal-is b f = is ∙ ap (λ (x : DeckRead). replyOf (x .answer)) (f .read-is)
 
-  pub cone-done : (s : ℕ) (c : ConeRead) (r : CountReply)
-      → a .number ≡ 0
-      → ((D : Deck) → read .deck ≡ stored D → Accepted base D → c ≡ coneRead D s)
-      → r ≡ countReply (c .answer) (c .set) (c .size)
-      → (o : Outcome Deck)
-      → Readable o
-      → read ≡ deckRead o
-      → r ≡ coneReply o s
-  cone-done s c r z g e (Got d) h f = e ∙ ap (λ (x : ConeRead). countReply (x .answer) (x .set) (x .size)) (g d (ap (λ (x : DeckRead). x .deck) f) h)
-  cone-done s c r z g e (Refused b) h f =
-      absurd (omega (arith, h, z, ap (λ (x : Reply). x .number) is, ap (λ (x : DeckRead). replyOf (x .answer) .number) f))
-
-  -- ---- reducing
-
-  pub reduce-refused : (out : List ℕ) (r : CountReply)
-      → (a .number ≡ 0 → ⊥)
-      → r ≡ withCounts 0 0 a
-      → (o : Outcome Deck)
-      → Readable o
-      → read ≡ deckRead o
-      → (r ≡ reduceReply o out) × (out ≡ reduceBuffer o out)
-  reduce-refused out r n e (Got d) h f = absurd (n (ap (λ (x : Reply). x .number) is ∙ ap (λ (x : DeckRead). replyOf (x .answer) .number) f))
-  reduce-refused out r n e (Refused b) h f = (e ∙ ap (withCounts 0 0) is ∙ ap (λ (x : DeckRead). countReply (x .answer) 0 0) f, refl)
-
-  pub reduce-done : (out after : List ℕ) (w : Reduced) (r : CountReply)
-      → a .number ≡ 0
-      → ((D : Deck) → Accepted base D → read .deck ≡ stored D → (w ≡ reduced D (length out)) × (after ≡ reducedInto D out))
-      → r ≡ countReply (w .answer) (w .pieces) (w .bytes)
-      → (o : Outcome Deck)
-      → Readable o
-      → read ≡ deckRead o
-      → (r ≡ reduceReply o out) × (after ≡ reduceBuffer o out)
-  reduce-done out after w r z g e (Got d) h f =
-      let (report, buffer) = g d h (ap (λ (x : DeckRead). x .deck) f) in (e ∙ ap (λ (x : Reduced). countReply (x .answer) (x .pieces) (x .bytes)) report, buffer)
-  reduce-done out after w r z g e (Refused b) h f =
-      absurd (omega (arith, h, z, ap (λ (x : Reply). x .number) is, ap (λ (x : DeckRead). replyOf (x .answer) .number) f))
-
-  -- ---- checking
-
-  pub check-refused : (claim : List ℕ) → (a .number ≡ 0 → ⊥) → (o : Outcome Deck) → Readable o → read ≡ deckRead o → a ≡ replyOf (deckChecked o claim)
-  check-refused claim n (Got d) h f = absurd (n (ap (λ (x : Reply). x .number) is ∙ ap (λ (x : DeckRead). replyOf (x .answer) .number) f))
-  check-refused claim n (Refused b) h f = is ∙ ap (λ (x : DeckRead). replyOf (x .answer)) f
-
-  module _ (claim : List ℕ) (m : ClaimRead) (m-is : m ≡ claimRead (readClaim (read .deck .vars) claim)) (b : Reply) (b-is : b ≡ replyOf (m .answer)) where
-    -- What the claim was read as, of the deck that was read.
-    claim-of : (d : Deck) → read ≡ deckRead (Got d) → m ≡ claimRead (readClaim (d .vars) claim)
-    claim-of d f = m-is ∙ ap (λ (x : DeckRead). claimRead (readClaim (x .deck .vars) claim)) f
-
-    number-of : (o : Outcome Claim) → m ≡ claimRead o → b .number ≡ replyOf (claimRead o .answer) .number
-    number-of o e = ap (λ (x : Reply). x .number) b-is ∙ ap (λ (x : ClaimRead). replyOf (x .answer) .number) e
-
-    pub claim-refused : a .number ≡ 0 → (b .number ≡ 0 → ⊥) → (o : Outcome Deck) → Readable o → read ≡ deckRead o → b ≡ replyOf (deckChecked o claim)
-    claim-refused z n (Refused x) h f = absurd (omega (arith, h, z, ap (λ (y : Reply). y .number) is, ap (λ (y : DeckRead). replyOf (y .answer) .number) f))
-    claim-refused z n (Got d) h f = go (readClaim (d .vars) claim) (claim-of d f)
+    pub deck-there : a .number ≡ 0 → (o : Outcome Deck) × Readable o × Came o → There
+    deck-there z (o, ok, e) = go o ok e
       where
-        go : (o : Outcome Claim) → m ≡ claimRead o → b ≡ replyOf (claimChecked d o)
-        go (Got M) e = absurd (n (number-of (Got M) e))
-        go (Refused x) e = b-is ∙ ap (λ (y : ClaimRead). replyOf (y .answer)) e
+        go : (o : Outcome Deck) → Readable o → Came o → There
+        go (Got d) h f = (d, h, f)
+        go (Refused b) h f = absurd (number-other b h f z)
 
-    -- A claim with number 0 was read.
-    claim-there : (d : Deck) → read ≡ deckRead (Got d) → b .number ≡ 0 → (M : Claim) × (readClaim (d .vars) claim ≡ Got M) × Sized base M × (m ≡ claimRead (Got M))
-    claim-there d f z = go (readClaim (d .vars) claim) refl (claim-numbered (d .vars) claim)
-      where
-        go : (o : Outcome Claim) → readClaim (d .vars) claim ≡ o → Numbered o → (M : Claim) × (readClaim (d .vars) claim ≡ Got M) × Sized base M × (m ≡ claimRead (Got M))
-        go (Got M) e h = (M, e, claim-read-sized (d .vars) claim M e .0, claim-of d f ∙ ap claimRead e)
-        go (Refused x) e h = absurd (omega (arith, fault x h .0, z, number-of (Refused x) (claim-of d f ∙ ap claimRead e)))
+    -- ---- reading
 
-    pub both-there : a .number ≡ 0 → b .number ≡ 0 → (o : Outcome Deck) × Readable o × (read ≡ deckRead o)
-        → ((D : Deck) × Accepted base D × (read .deck ≡ stored D)) × ((M : Claim) × Sized base M × (m ≡ claimRead (Got M)))
-    both-there z y (o, ok, e) = go o ok e
-      where
-        go : (o : Outcome Deck) → Readable o → read ≡ deckRead o
-            → ((D : Deck) × Accepted base D × (read .deck ≡ stored D)) × ((M : Claim) × Sized base M × (m ≡ claimRead (Got M)))
-        go (Got d) h f = let (M, e, sized, same) = claim-there d f y in ((d, h, ap (λ (x : DeckRead). x .deck) f), (M, sized, same))
-        go (Refused x) h f = absurd (omega (arith, h, z, ap (λ (y : Reply). y .number) is, ap (λ (y : DeckRead). replyOf (y .answer) .number) f))
+    pub read-refused : (d : Stored) (r : DeckReply) → (a .number ≡ 0 → ⊥) → d ≡ blank → r ≡ deckReply (read .answer) d → (o : Outcome Deck) → Readable o → Came o → r ≡ readReply o
+    read-refused d r n b e (Got D) h f = absurd (n (number-fine D f))
+    read-refused d r n b e (Refused x) h f = e ∙ ap (deckReply (read .answer)) b ∙ ap (λ (y : DeckRead). deckReply (y .answer) blank) (f .read-is)
 
-    pub check-done : (v : Answer) (r : Reply)
-        → a .number ≡ 0
-        → b .number ≡ 0
-        → ((D : Deck) (M : Claim) → Accepted base D → read .deck ≡ stored D → Sized base M → m ≡ claimRead (Got M) → v ≡ verdictAnswer (verdict D M))
-        → r ≡ replyOf v
+    pub read-done : (r : DeckReply) → a .number ≡ 0 → r ≡ deckReply (read .answer) (storedIn read inits lefts ends nodes property) → (o : Outcome Deck) → Readable o → Came o → r ≡ readReply o
+    read-done r z e (Got D) h f =
+        e
+        ∙ ap (deckReply (read .answer)) (came-stored D read inits lefts ends nodes property f)
+        ∙ ap (λ (y : DeckRead). deckReply (y .answer) (stored D)) (f .read-is)
+    read-done r z e (Refused x) h f = absurd (number-other x h f z)
+
+    -- ---- writing
+
+    pub write-refused : (out : List ℕ) (r : CountReply)
+        → (a .number ≡ 0 → ⊥)
+        → r ≡ withCounts 0 0 a
         → (o : Outcome Deck)
         → Readable o
-        → read ≡ deckRead o
+        → Came o
+        → (r ≡ writeReply o out) × (out ≡ writeBuffer o out)
+    write-refused out r n e (Got d) h f = absurd (n (number-fine d f))
+    write-refused out r n e (Refused b) h f = (e ∙ ap (withCounts 0 0) (refusal-is b f), refl)
+
+    pub write-done : (out after : List ℕ) (w : Written) (r : CountReply)
+        → a .number ≡ 0
+        → ((D : Deck) → Accepted base D → Came (Got D) → (w ≡ deckWritten D out .report) × (after ≡ deckWritten D out .buffer))
+        → r ≡ countReply (w .answer) (w .bytes) 0
+        → (o : Outcome Deck)
+        → Readable o
+        → Came o
+        → (r ≡ writeReply o out) × (after ≡ writeBuffer o out)
+    write-done out after w r z g e (Got d) h f = let (report, buffer) = g d h f in (e ∙ ap (λ (x : Written). countReply (x .answer) (x .bytes) 0) report, buffer)
+    write-done out after w r z g e (Refused b) h f = absurd (number-other b h f z)
+
+    -- ---- cones
+
+    pub cone-asked : a .number ≡ 0 → (o : Outcome Deck) × Readable o × Came o → (D : Deck) × Accepted base D × (read .vars ≡ D .vars) × HoldsEquations (D .equations) lefts ends nodes (read .equations)
+    cone-asked z r = let (D, ok, f) = deck-there z r in (D, ok, ap (λ (x : DeckRead). x .vars) (f .read-is), came-equations D read inits lefts ends nodes property f)
+
+    pub cone-refused : (s : ℕ) (r : CountReply) → (a .number ≡ 0 → ⊥) → r ≡ withCounts 0 0 a → (o : Outcome Deck) → Readable o → Came o → r ≡ coneReply o s
+    cone-refused s r n e (Got d) h f = absurd (n (number-fine d f))
+    cone-refused s r n e (Refused b) h f = e ∙ ap (withCounts 0 0) (refusal-is b f)
+
+    pub cone-done : (s : ℕ) (c : ConeRead) (r : CountReply)
+        → a .number ≡ 0
+        → ((D : Deck) → Accepted base D → read .vars ≡ D .vars → HoldsEquations (D .equations) lefts ends nodes (read .equations) → c ≡ coneRead D s)
+        → r ≡ countReply (c .answer) (c .set) (c .size)
+        → (o : Outcome Deck)
+        → Readable o
+        → Came o
+        → r ≡ coneReply o s
+    cone-done s c r z g e (Got d) h f =
+        e ∙ ap (λ (x : ConeRead). countReply (x .answer) (x .set) (x .size)) (g d h (ap (λ (x : DeckRead). x .vars) (f .read-is)) (came-equations d read inits lefts ends nodes property f))
+    cone-done s c r z g e (Refused b) h f = absurd (number-other b h f z)
+
+    -- ---- reducing
+
+    pub reduce-refused : (out : List ℕ) (r : CountReply)
+        → (a .number ≡ 0 → ⊥)
+        → r ≡ withCounts 0 0 a
+        → (o : Outcome Deck)
+        → Readable o
+        → Came o
+        → (r ≡ reduceReply o out) × (out ≡ reduceBuffer o out)
+    reduce-refused out r n e (Got d) h f = absurd (n (number-fine d f))
+    reduce-refused out r n e (Refused b) h f = (e ∙ ap (withCounts 0 0) (refusal-is b f), refl)
+
+    pub reduce-done : (out after : List ℕ) (w : Reduced) (r : CountReply)
+        → a .number ≡ 0
+        → ((D : Deck) → Accepted base D → Came (Got D) → (w ≡ reduced D (length out)) × (after ≡ reducedInto D out))
+        → r ≡ countReply (w .answer) (w .pieces) (w .bytes)
+        → (o : Outcome Deck)
+        → Readable o
+        → Came o
+        → (r ≡ reduceReply o out) × (after ≡ reduceBuffer o out)
+    reduce-done out after w r z g e (Got d) h f = let (report, buffer) = g d h f in (e ∙ ap (λ (x : Reduced). countReply (x .answer) (x .pieces) (x .bytes)) report, buffer)
+    reduce-done out after w r z g e (Refused b) h f = absurd (number-other b h f z)
+
+    -- ---- checking
+
+    pub check-refused : (claim : List ℕ) → (a .number ≡ 0 → ⊥) → (o : Outcome Deck) → Readable o → Came o → a ≡ replyOf (deckChecked o claim)
+    check-refused claim n (Got d) h f = absurd (n (number-fine d f))
+    check-refused claim n (Refused b) h f = refusal-is b f
+
+    pub check-done : (claim : List ℕ) (r : Reply)
+        → a .number ≡ 0
+        → ((D : Deck) → Accepted base D → Came (Got D) → r ≡ replyOf (claimChecked D (readClaim (D .vars) claim)))
+        → (o : Outcome Deck)
+        → Readable o
+        → Came o
         → r ≡ replyOf (deckChecked o claim)
-    check-done v r z y g e (Got d) h f =
-        let (M, read-as, sized, same) = claim-there d f y in
-        e ∙ ap replyOf (g d M h (ap (λ (x : DeckRead). x .deck) f) sized same) ∙ ap (λ (o : Outcome Claim). replyOf (claimChecked d o)) (sym read-as)
-    check-done v r z y g e (Refused x) h f = absurd (omega (arith, h, z, ap (λ (y : Reply). y .number) is, ap (λ (y : DeckRead). replyOf (y .answer) .number) f))
+    check-done claim r z g (Got d) h f = g d h f
+    check-done claim r z g (Refused b) h f = absurd (number-other b h f z)
 
--- ---- verdicts
+  -- ---- the claim, on the deck that was read
 
-abbrev withC : Claim → ℕ → Claim
-withC M n = record { p = M .p; c = n; states = M .states }
+  module _ (claim : List ℕ) (m : ClaimRead) (states : List ℕ) (came : ClaimCame (readClaim (read .vars) claim) m states) (b : Reply) (b-is : b ≡ replyOf (m .answer)) where
+    claim-of : (d : Deck) → Came (Got d) → ClaimCame (readClaim (d .vars) claim) m states
+    claim-of d f = subst (λ (x : DeckRead). ClaimCame (readClaim (x .vars) claim) m states) (f .read-is) came
 
--- The claim of the states lent.
-lent-claim : (M : Claim) → Sized base M → claimOf (M .p) (take (M .p + M .c) (padded (base .states) (M .states))) ≡ M
-lent-claim M ok =
-    let states : take (M .p + M .c) (padded (base .states) (M .states)) ≡ M .states = ap (λ (n : ℕ). take n (padded (base .states) (M .states))) (sym (ok .all)) ∙ take-padded (base .states) (M .states) in
-    let rest : length (M .states) - M .p ≡ M .c = omega (arith, ok .all) in
-    ap (claimOf (M .p)) states ∙ ap (withC M) rest
+    number-of : (o : Outcome Claim) → ClaimCame o m states → b .number ≡ replyOf (claimRead o .answer) .number
+    number-of o e = ap (λ (x : Reply). x .number) b-is ∙ ap (λ (x : ClaimRead). replyOf (x .answer) .number) (e .read-is)
 
--- A row of zeros, one for each state that a claim may have.
-abbrev noughts : List ℕ
-noughts = replicate (base .states) 0
+    pub claim-refused : (b .number ≡ 0 → ⊥) → (d : Deck) → Accepted base d → Came (Got d) → b ≡ replyOf (claimChecked d (readClaim (d .vars) claim))
+    claim-refused n d h f = go (readClaim (d .vars) claim) (claim-of d f)
+      where
+        go : (o : Outcome Claim) → ClaimCame o m states → b ≡ replyOf (claimChecked d o)
+        go (Got M) e = absurd (n (number-of (Got M) e))
+        go (Refused x) e = b-is ∙ ap (λ (y : ClaimRead). replyOf (y .answer)) (e .read-is)
 
--- The first of a row of zeros are zeros.
-zeros-first : (k n : ℕ) → Zeros (take k (replicate {A = ℕ} n 0))
-zeros-first zero n i = refl
-zeros-first (suc k) zero i = refl
-zeros-first (suc k) (suc n) zero = refl
-zeros-first (suc k) (suc n) (suc i) = zeros-first k n i
+    -- A claim with number 0 was read.
+    claim-there : (d : Deck) → Came (Got d) → b .number ≡ 0 → (M : Claim) × (readClaim (d .vars) claim ≡ Got M) × Sized base M × ClaimCame (Got M) m states
+    claim-there d f z = go (readClaim (d .vars) claim) refl (claim-numbered (d .vars) claim) (claim-of d f)
+      where
+        go : (o : Outcome Claim) → readClaim (d .vars) claim ≡ o → Numbered o → ClaimCame o m states → (M : Claim) × (readClaim (d .vars) claim ≡ Got M) × Sized base M × ClaimCame (Got M) m states
+        go (Got M) e h g = (M, e, claim-read-sized (d .vars) claim M e .0, g)
+        go (Refused x) e h g = absurd (omega (arith, fault x h .0, z, number-of (Refused x) g))
 
-module _ (d : Stored) (m : ClaimRead) where
-  -- A claim that was read.
-  abbrev Claimed : Type 0
-  Claimed = (M : Claim) × Sized base M × (m ≡ claimRead (Got M))
+    pub claimed : There → b .number ≡ 0 → Claimed m states
+    claimed (d, ok, f) z = let (M, e, sized, g) = claim-there d f z in (M, sized, g)
 
-  pub claim-most : Claimed → m .p + m .c ≤ base .states
-  claim-most (M, ok, e) = omega (arith, ok .most, ap (λ (x : ClaimRead). x .p) e, ap (λ (x : ClaimRead). x .c) e)
-
-  claim-some : Claimed → m .p < m .p + m .c
-  claim-some (M, ok, e) = omega (arith, ok .some, ap (λ (x : ClaimRead). x .c) e)
-
-  claim-long : Claimed → length (m .states) ≡ base .states
-  claim-long (M, ok, e) = ap (λ (x : ClaimRead). length (x .states)) e ∙ length-padded (base .states) (M .states) (omega (arith, ok .all, ok .most))
-
-  pub claim-within : Claimed → m .p + m .c ≤ length (m .states)
-  claim-within r = omega (arith, claim-most r, claim-long r)
-
-  pub states-lent : Claimed → m .p + m .c ≡ length (take (m .p + m .c) (m .states))
-  states-lent r = sym (length-take-le (m .p + m .c) (m .states) (claim-within r))
-
-  pub zeros-lent : Claimed → m .p + m .c ≡ length (take (m .p + m .c) noughts)
-  zeros-lent r = sym (length-take-le (m .p + m .c) noughts (omega (arith, claim-most r, length-replicate {A = ℕ} (base .states) 0)))
-
-  pub verdict-asked : ((D : Deck) × Accepted base D × (d ≡ stored D)) × Claimed
-      → ((D : Deck) × (d ≡ stored D) × Accepted base D)
-      × (m .p < length (take (m .p + m .c) (m .states)))
-      × Zeros (take (m .p + m .c) noughts)
-      × Zeros (take (m .p + m .c) noughts)
-      × (length (take (m .p + m .c) noughts) ≡ length (take (m .p + m .c) (m .states)))
-      × (length (take (m .p + m .c) noughts) ≡ length (take (m .p + m .c) (m .states)))
-  verdict-asked ((D, ok, e), r) =
-      let same = sym (zeros-lent r) ∙ states-lent r in
-      ((D, e, ok), omega (arith, claim-some r, states-lent r), zeros-first (m .p + m .c) (base .states), zeros-first (m .p + m .c) (base .states), same, same)
-
-  pub verdict-done : (r : Answer)
-      → ((D : Deck) → d ≡ stored D → Accepted base D → r ≡ verdictAnswer (verdict D (claimOf (m .p) (take (m .p + m .c) (m .states)))))
-      → (D : Deck) (M : Claim)
-      → Accepted base D
-      → d ≡ stored D
-      → Sized base M
-      → m ≡ claimRead (Got M)
-      → r ≡ verdictAnswer (verdict D M)
-  verdict-done r g D M ok e sized f =
-      g D e ok ∙ ap (λ (x : ClaimRead). verdictAnswer (verdict D (claimOf (x .p) (take (x .p + x .c) (x .states))))) f ∙ ap (λ (x : Claim). verdictAnswer (verdict D x)) (lent-claim M sized)
+    pub verdict-done : (v : Answer) (r : Reply)
+        → b .number ≡ 0
+        → ((D : Deck) → Accepted base D → Came (Got D) → v ≡ verdictAnswer (verdict D (claimOf (m .p) (take (m .p + m .c) states))))
+        → r ≡ replyOf v
+        → (d : Deck)
+        → Accepted base d
+        → Came (Got d)
+        → r ≡ replyOf (claimChecked d (readClaim (d .vars) claim))
+    verdict-done v r z g e d h f =
+        let (M, read-as, sized, row) = claim-there d f z in
+        e ∙ ap replyOf (g d h f ∙ ap (λ (x : Claim). verdictAnswer (verdict d x)) (its-claim M m states sized row)) ∙ ap (λ (o : Outcome Claim). replyOf (claimChecked d o)) (sym read-as)
 
 -- ---- exports
 

@@ -1,7 +1,7 @@
 // The steps of a claim: all states side by side, equation by equation.
 ghost use mathlib.Core.Path.{_≡_};
 ghost use mathlib.Core.List.{List};
-ghost use Prim.Native.Nat.{ℕ, _+_, _/_, _%_, _^_, _<_, _≤_};
+ghost use Prim.Native.Nat.{_/_, _<_};
 ghost use lib.Dec.{eqb};
 ghost use lib.ListN.{length, getD, set};
 ghost use Rattle.sets.specs.Sets.{bit};
@@ -74,20 +74,6 @@ fn pop(words: &mut [u64])
     }
 }
 
-// Number i of a row.
-fn number_at(row: &[u16], i: usize) -> usize
-    requires { ⌜ i < length (now row) ⌝ }
-    ensures { λ r. ⌜ r ≡ getD (now (row .entry)) i 0 ⌝ }
-{
-    wide(row[i])
-}
-
-fn wide(n: u16) -> usize
-    ensures { λ r. ⌜ r ≡ n ⌝ }
-{
-    n as usize
-}
-
 // v is marked at every step where the expression that begins at `at` gives the value that v takes; the words stay.
 fn mark_equation<'a>(
     nodes: &'a [u16],
@@ -123,9 +109,9 @@ pub fn mark_all<'a>(
     let mut i = 0;
     let mut at = 0;
     while i < equations {
-        let v = number_at(lefts, i);
+        let v = decks::place_at(lefts, i);
         mark_equation(nodes, at, states, p, v, words, marks);
-        at = number_at(ends, i);
+        at = decks::place_at(ends, i);
         i += 1;
     }
 }

@@ -13,7 +13,7 @@ use Rattle.logic.specs.Expressions.{Expr, Const, Var, One, Two, Op1, Op2, Not, 
 use Rattle.logic.proofs.Codes.{code-unique, length-code, nodes-some}
 use Rattle.terms.specs.Nodes.{placesOf, temporal?, spans, variableOf, variablesOf, someTemporal, Stands}
 use Rattle.lists.specs.Lists.{part}
-use Rattle.terms.proofs.Laws.{spans-none, variable-low, variable-high}
+use Rattle.terms.proofs.Laws.{variable-low, variable-high}
 use Rattle.sets.proofs.Laws.{union-assoc}
 
 -- ---- how many operands a node has
@@ -89,9 +89,6 @@ module _ (cs : List ℕ) (i : ℕ) where
   stands-within e s =
       let z : length cs - i ≡ length (code e) + length (s .1 .0) = sym (length-drop i cs) ∙ ap length (s .1 .1) ∙ length-append (code e) (s .1 .0) in
       omega (arith, length-code e, nodes-some e)
-
-  pub stands-end : (e : Expr) → Stands cs i e → i + spans 1 (drop i cs) ≡ i + nodes e
-  stands-end e s = rw (s .1 .1) (omega (arith, spans-code e 0 (s .1 .0) (s .0), spans-none (s .1 .0)))
 
   pub stands-operand : (o : Op1) (a : Expr) → Stands cs i (One o a) → Stands cs (i + 1) a
   unfolding code

@@ -19,7 +19,10 @@ use Rattle.logic.specs.Pieces.{equationsOf}
 use Rattle.logic.proofs.Codes.{below-more, written-below, length-code, code-fits}
 use Rattle.decks.specs.declared.Deck.{Deck as Stored}
 use Rattle.decks.specs.declared.Answer.the-variants.{Fine, NoRoom}
-use Rattle.decks.specs.Stored.{HoldsEquations, codes, stored}
+use Rattle.decks.specs.declared.DeckRead.{DeckRead}
+use Rattle.decks.specs.Answers.{Got}
+use Rattle.decks.specs.Stored.{HoldsEquations, codes, stored, DeckCame}
+use Rattle.decks.proofs.Stored.{storedIn, came-stored}
 use Rattle.frames.specs.Hex.{pair, pairs}
 use Rattle.frames.specs.Written.{claimKind, stateKind, claimCountKind, claimFrames, setBytes, setKind, initKind, propertyKind, countKind, nodePairs, frame, stateFrames, equationFrames, deckFrames}
 use Rattle.frames.proofs.HexLaws.{length-pairs, pairs-four}
@@ -210,7 +213,7 @@ module _ (p c : ℕ) (states : List ℕ) (s : Sized base (claimOf p c states)) w
   pub claim-counted : (r : ℕ) → r ≡ 19 * (p + c) + 18 → r ≡ length (claimFrames (claimOf p c states))
   claim-counted r e = e ∙ claim-bytes
 
--- ---- decks as they are stored
+-- ---- decks that were read
 
 nodes-padded : (n : ℕ) (ns : List ℕ) → Nodes ns → Nodes (padded n ns)
 nodes-padded n ns ps = each-append (λ (x : ℕ). x < 266) ns (replicate (n - length ns) 0) ps (each-replicate (λ (x : ℕ). x < 266) (n - length ns) 0 (omega arith))
@@ -225,7 +228,7 @@ module _ (D : Deck) (a : Accepted base D) where
   all-narrow (q ∷ qs) ps = each-append (λ (n : ℕ). n < 266) (code (q .right)) (codes qs) (narrow (q .right) (ps .0 .uses)) (all-narrow qs (ps .1))
 
   -- An accepted deck in memory is lent as it stands.
-  pub stored-lent : (d : Stored) → d ≡ stored D → Lent (D .equations) (D .property) (d .inits) (d .initials) (d .lefts) (d .ends) (d .nodes) (d .equations) (d .property) 0 (d .size)
+  stored-lent : (d : Stored) → d ≡ stored D → Lent (D .equations) (D .property) (d .inits) (d .initials) (d .lefts) (d .ends) (d .nodes) (d .equations) (d .property) 0 (d .size)
   stored-lent d e =
       subst
       (λ (m : Stored). Lent (D .equations) (D .property) (m .inits) (m .initials) (m .lefts) (m .ends) (m .nodes) (m .equations) (m .property) 0 (m .size))
@@ -254,20 +257,33 @@ module _ (D : Deck) (a : Accepted base D) where
       (keep-all (λ (q : Equation). has (D .vars) (q .left)) (D .equations)
       (each-map (Allowed base (D .vars)) (λ (q : Equation). has (D .vars) (q .left) ≡ true) (D .equations) (λ q k. has-true (D .vars) (q .left) (k .its)) (a .equations-allowed)))
 
-  module _ (d : Stored) (e : d ≡ stored D) (n : ℕ) where
-    pub stored-size : ((qs : List Equation) (x : Expr) → Lent qs x (d .inits) (d .initials) (d .lefts) (d .ends) (d .nodes) (d .equations) (d .property) 0 (d .size)
-        → n ≡ length (framesOf (d .vars) (d .inits) (d .initials) qs x)) → n ≡ length (deckFrames D)
-    stored-size f = f (D .equations) (D .property) (stored-lent d e) ∙ ap (λ (l : List ℕ). length l) (stored-frames d e)
+  -- What was read lies in the rows lent.
+  module _ (read : DeckRead) (inits lefts ends nodes property : List ℕ) (h : DeckCame (Got D) read inits lefts ends nodes property) where
+    abbrev Lends : List Equation → Expr → Type 0
+    Lends qs x = Lent qs x inits (read .initials) lefts ends nodes (read .equations) property 0 (read .size)
 
-    pub stored-room : (room : ℕ) → ((qs : List Equation) (x : Expr) → Lent qs x (d .inits) (d .initials) (d .lefts) (d .ends) (d .nodes) (d .equations) (d .property) 0 (d .size)
-        → n ≡ length (framesOf (d .vars) (d .inits) (d .initials) qs x)) → n ≤ room → length (framesOf (d .vars) (d .inits) (d .initials) (D .equations) (D .property)) ≤ room
-    stored-room room f h = omega (arith, f (D .equations) (D .property) (stored-lent d e))
+    abbrev Frames : List Equation → Expr → List ℕ
+    Frames qs x = framesOf (read .vars) inits (read .initials) qs x
 
-    module _ (out₀ out : List ℕ)
-        (f : (qs : List Equation) (x : Expr) → Lent qs x (d .inits) (d .initials) (d .lefts) (d .ends) (d .nodes) (d .equations) (d .property) 0 (d .size)
-        → (n ≡ length (framesOf (d .vars) (d .inits) (d .initials) qs x)) × (out ≡ splice 0 (framesOf (d .vars) (d .inits) (d .initials) qs x) out₀)) where
-      pub stored-bytes : n ≡ length (deckFrames D)
-      stored-bytes = f (D .equations) (D .property) (stored-lent d e) .0 ∙ ap (λ (l : List ℕ). length l) (stored-frames d e)
+    abbrev its : Stored
+    its = storedIn read inits lefts ends nodes property
 
-      pub stored-wrote : out ≡ splice 0 (deckFrames D) out₀
-      stored-wrote = f (D .equations) (D .property) (stored-lent d e) .1 ∙ ap (λ (l : List ℕ). splice 0 l out₀) (stored-frames d e)
+    pub came-lent : Lends (D .equations) (D .property)
+    came-lent = stored-lent its (came-stored D read inits lefts ends nodes property h)
+
+    came-frames : Frames (D .equations) (D .property) ≡ deckFrames D
+    came-frames = stored-frames its (came-stored D read inits lefts ends nodes property h)
+
+    module _ (n : ℕ) where
+      pub came-size : ((qs : List Equation) (x : Expr) → Lends qs x → n ≡ length (Frames qs x)) → n ≡ length (deckFrames D)
+      came-size f = f (D .equations) (D .property) came-lent ∙ ap (λ (l : List ℕ). length l) came-frames
+
+      pub came-room : (room : ℕ) → ((qs : List Equation) (x : Expr) → Lends qs x → n ≡ length (Frames qs x)) → n ≤ room → length (Frames (D .equations) (D .property)) ≤ room
+      came-room room f h = omega (arith, f (D .equations) (D .property) came-lent)
+
+      module _ (out₀ out : List ℕ) (f : (qs : List Equation) (x : Expr) → Lends qs x → (n ≡ length (Frames qs x)) × (out ≡ splice 0 (Frames qs x) out₀)) where
+        pub came-bytes : n ≡ length (deckFrames D)
+        came-bytes = f (D .equations) (D .property) came-lent .0 ∙ ap (λ (l : List ℕ). length l) came-frames
+
+        pub came-wrote : out ≡ splice 0 (deckFrames D) out₀
+        came-wrote = f (D .equations) (D .property) came-lent .1 ∙ ap (λ (l : List ℕ). splice 0 l out₀) came-frames

@@ -7,7 +7,8 @@ ghost use Rattle.lists.specs.Lists.{splice, part};
 ghost use Rattle.logic.specs.Expressions.{Expr};
 ghost use Rattle.logic.specs.Decks.{Equation, Deck, Accepted, base};
 ghost use Rattle.logic.specs.Meaning.{Sized};
-ghost use Rattle.decks.specs.Stored.{stored};
+ghost use Rattle.decks.specs.Answers.{Got};
+ghost use Rattle.decks.specs.Stored.{DeckCame};
 ghost use Rattle.frames.specs.Hex.{pairs};
 ghost use Rattle.frames.specs.Written.{setBytes, setKind, initKind, propertyKind, countKind, nodePairs, frame, stateFrames, claimFrames};
 ghost use Rattle.writing.specs.Parts.{Nodes};
@@ -87,21 +88,29 @@ pub fn frames_size<'a>(
 }
 
 // A deck into a buffer; 17 with the bytes needed, and no byte changed, where it has no room.
-pub fn write_deck(d: decks::Deck, out: &mut [u8]) -> Written
-    requires { ⌜ ((D : Deck) × Accepted base D × (d ≡ stored D)) ⌝ }
-    ensures { λ r. ⌜ ((D : Deck) → Accepted base D → d ≡ stored D → (r ≡ deckWritten D (now (out .entry)) .report) × (now (out .exit) ≡ deckWritten D (now (out .entry)) .buffer)) ⌝ }
+pub fn write_deck<'a>(
+    read: decks::DeckRead,
+    inits: &'a [u64],
+    lefts: &'a [u16],
+    ends: &'a [u16],
+    nodes: &'a [u16],
+    property: &'a [u16],
+    out: &mut [u8],
+) -> Written
+    requires { ⌜ ((D : Deck) × Accepted base D × DeckCame (Got D) read (now inits) (now lefts) (now ends) (now nodes) (now property)) ⌝ }
+    ensures { λ r. ⌜ ((D : Deck) → Accepted base D → DeckCame (Got D) read (now (inits .entry)) (now (lefts .entry)) (now (ends .entry)) (now (nodes .entry)) (now (property .entry)) → (r ≡ deckWritten D (now (out .entry)) .report) × (now (out .exit) ≡ deckWritten D (now (out .entry)) .buffer)) ⌝ }
 {
     let needed = frames_size(
-        d.vars,
-        &d.inits,
-        d.initials,
-        &d.lefts,
-        &d.ends,
-        &d.nodes,
-        d.equations,
-        &d.property,
+        read.vars,
+        inits,
+        read.initials,
+        lefts,
+        ends,
+        nodes,
+        read.equations,
+        property,
         0,
-        d.size,
+        read.size,
     );
     if out.len() < needed {
         return Written {
@@ -110,16 +119,16 @@ pub fn write_deck(d: decks::Deck, out: &mut [u8]) -> Written
         };
     }
     let n = write_frames(
-        d.vars,
-        &d.inits,
-        d.initials,
-        &d.lefts,
-        &d.ends,
-        &d.nodes,
-        d.equations,
-        &d.property,
+        read.vars,
+        inits,
+        read.initials,
+        lefts,
+        ends,
+        nodes,
+        read.equations,
+        property,
         0,
-        d.size,
+        read.size,
         out,
     );
     Written {

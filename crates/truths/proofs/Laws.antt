@@ -4,18 +4,20 @@ use mathlib.Core.Bool.{true, false}
 use mathlib.Core.List.{List}
 use Prim.Native.Nat.{ℕ, suc, _+_, _-_, _<_, _≤_, min, max}
 use native.Mathlib.Omega.{arith}
-use lib.ListN.{length, drop, getD}
+use mir.Val.{Fits}
+use mir.Syntax.{w64}
+use lib.ListN.{length, getD}
 use lib.Pow.{pow-mono}
-use Rattle.logic.specs.Expressions.{Expr, Const, Var, One, Two, Op2, Not, Next, Future, Always, And, Or, Until, Weak, levels}
+use Rattle.logic.specs.Expressions.{Expr, Const, Var, One, Two, Op2, Not, Next, Future, Always, And, Or, Until, Weak, nodes, levels}
 use Rattle.logic.specs.Decks.{Limits}
 use Rattle.logic.specs.Meaning.{Claim, Sized}
 use Rattle.logic.specs.Verdicts.{truth}
 use Rattle.logic.proofs.Codes.{nodes-some, levels-some}
 use Rattle.logic.proofs.Verdict.{truth-lt}
-use Rattle.terms.specs.Nodes.{placesOf, spans, Stands}
-use Rattle.terms.proofs.Trees.{headNode, places-const, places-var, places-one, places-two, stands-node, stands-within, stands-end, stands-operand, stands-first, stands-second}
+use Rattle.terms.specs.Nodes.{placesOf, Stands}
+use Rattle.terms.proofs.Trees.{headNode, places-const, places-var, places-one, places-two, stands-node, stands-within, stands-operand, stands-first, stands-second}
 use Rattle.evaluator.specs.Pending.{top, second, pushed, topped, joined, All, Below, settled, variableWord, nextWord, sweptWord}
-use Rattle.truths.specs.Worked.{claimOf, operands, truthWord, Worked, Leaf, Applied1, Applied2, Ready, Evaluated}
+use Rattle.truths.specs.Worked.{claimOf, operands, truthWord, Worked, Leaf, Applied1, Applied2, Ready, Ends, Evaluated}
 use Rattle.truths.proofs.Operators.{all-as, not-worked, next-worked, future-worked, always-worked, and-worked, or-worked, until-worked, weak-worked}
 
 -- ---- constants and variables
@@ -143,8 +145,14 @@ module _ (ns : List ℕ) (i : ℕ) where
       pub node-within : i < length ns
       node-within = omega (arith, stands-within ns i (r .its) (r .stands), nodes-some (r .its))
 
+      pub next-fits : Fits w64 (length ns) → Fits w64 (i + 1)
+      next-fits l = omega (arith, l, node-within)
+
       pub left-some : 1 ≤ left
       left-some = omega (arith, r .shallow, levels-some (r .its))
+
+      pub left-falls : (t : ℕ) → left ≡ t → left - 1 < t
+      left-falls t q = omega (arith, left-some)
 
       pub leaf-ready : Below 63 words × (length words ≡ length states)
       leaf-ready = (below-more (64 - left) 63 words (omega (arith, left-some)) (r .room), r .all)
@@ -158,6 +166,13 @@ module _ (ns : List ℕ) (i : ℕ) where
 
         pub leaf-evaluated : (new : List ℕ) → o ≡ 0 → Leaf states node words new → Evaluated ns i states p words new
         leaf-evaluated new z f e s = f (claimOf p states) e refl (s .0) (sym (operands-are e s) ∙ z) (head-is e s)
+
+        pub leaf-ends : o ≡ 0 → Ends ns i (i + 1)
+        unfolding nodes
+        leaf-ends z (Const b) s = refl
+        leaf-ends z (Var v) s = refl
+        leaf-ends z (One q a) s = absurd (omega (arith, operands-are (One q a) s))
+        leaf-ends z (Two q a b) s = absurd (omega (arith, operands-are (Two q a b) s))
 
         pub first-ready : (o ≡ 0 → ⊥) → Ready ns (i + 1) states p words (left - 1)
         unfolding levels
@@ -187,19 +202,25 @@ module _ (ns : List ℕ) (i : ℕ) where
                   loop = r .loop;
                 }
 
-        pub one-ready : (mid : List ℕ) → o ≡ 1 → Evaluated ns (i + 1) states p words mid → Below 63 mid × (p < length mid)
+        pub one-room : (mid : List ℕ) → o ≡ 1 → Evaluated ns (i + 1) states p words mid → Below 63 mid
         unfolding levels
-        one-ready mid z f = go (r .its) (r .stands) (r .shallow)
+        one-room mid z f = go (r .its) (r .stands) (r .shallow)
           where
-            go : (e : Expr) → Stands ns i e → levels e ≤ left → Below 63 mid × (p < length mid)
+            go : (e : Expr) → Stands ns i e → levels e ≤ left → Below 63 mid
             go (Const b) s l = absurd (omega (arith, operands-are (Const b) s))
             go (Var v) s l = absurd (omega (arith, operands-are (Var v) s))
             go (One q a) s l =
-                let w = f a (stands-operand ns i q a s) in (
-                  below-more (suc (64 - left)) 63 mid (omega (arith, levels-some a)) (worked-below (claimOf p states) a (64 - left) words mid (r .room) w),
-                  omega (arith, w .same, r .all, r .loop),
-                )
+                below-more (suc (64 - left)) 63 mid (omega (arith, levels-some a)) (worked-below (claimOf p states) a (64 - left) words mid (r .room) (f a (stands-operand ns i q a s)))
             go (Two q a b) s l = absurd (omega (arith, operands-are (Two q a b) s))
+
+        pub one-long : (mid : List ℕ) → o ≡ 1 → Evaluated ns (i + 1) states p words mid → p < length mid
+        one-long mid z f = go (r .its) (r .stands)
+          where
+            go : (e : Expr) → Stands ns i e → p < length mid
+            go (Const b) s = absurd (omega (arith, operands-are (Const b) s))
+            go (Var v) s = absurd (omega (arith, operands-are (Var v) s))
+            go (One q a) s = omega (arith, f a (stands-operand ns i q a s) .same, r .all, r .loop)
+            go (Two q a b) s = absurd (omega (arith, operands-are (Two q a b) s))
 
         pub one-evaluated : (mid new : List ℕ) → o ≡ 1 → Evaluated ns (i + 1) states p words mid → Applied1 p node mid new → Evaluated ns i states p words new
         one-evaluated mid new z f g (Const b) s = absurd (omega (arith, operands-are (Const b) s))
@@ -209,9 +230,23 @@ module _ (ns : List ℕ) (i : ℕ) where
             g (fit .0) (claimOf p states) q a words (fit .1) refl (r .all ∙ long (r .loop)) (head-is (One q a) s) (f a (stands-operand ns i q a s))
         one-evaluated mid new z f g (Two q a b) s = absurd (omega (arith, operands-are (Two q a b) s))
 
-        module _ (mid : List ℕ) (other : ℕ) (x : o ≡ 0 → ⊥) (y : o ≡ 1 → ⊥) (f : Evaluated ns (i + 1) states p words mid) (its-second : other ≡ i + 1 + spans 1 (drop (i + 1) ns)) where
+        pub one-ends : (end : ℕ) → o ≡ 1 → Ends ns (i + 1) end → Ends ns i end
+        unfolding nodes
+        one-ends end z f (Const b) s = absurd (omega (arith, operands-are (Const b) s))
+        one-ends end z f (Var v) s = absurd (omega (arith, operands-are (Var v) s))
+        one-ends end z f (One q a) s = omega (arith, f a (stands-operand ns i q a s))
+        one-ends end z f (Two q a b) s = absurd (omega (arith, operands-are (Two q a b) s))
+
+        module _ (mid : List ℕ) (other : ℕ) (x : o ≡ 0 → ⊥) (y : o ≡ 1 → ⊥) (its-end : Ends ns (i + 1) other) (f : Evaluated ns (i + 1) states p words mid) where
           second-stands : (q : Op2) (a b : Expr) → Stands ns i (Two q a b) → Stands ns other b
-          second-stands q a b s = rw (its-second ∙ stands-end ns (i + 1) a (stands-first ns i q a b s)) (stands-second ns i q a b s)
+          second-stands q a b s = rw (its-end a (stands-first ns i q a b s)) (stands-second ns i q a b s)
+
+          pub two-ends : (end : ℕ) → Ends ns other end → Ends ns i end
+          unfolding nodes
+          two-ends end g (Const b) s = absurd (x (operands-are (Const b) s))
+          two-ends end g (Var v) s = absurd (x (operands-are (Var v) s))
+          two-ends end g (One q a) s = absurd (y (operands-are (One q a) s))
+          two-ends end g (Two q a b) s = omega (arith, its-end a (stands-first ns i q a b s), g b (second-stands q a b s))
 
           pub second-ready : Ready ns other states p mid (left - 1)
           unfolding levels

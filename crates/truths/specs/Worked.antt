@@ -3,7 +3,7 @@ use mathlib.Core.Path.{_≡_}
 use mathlib.Core.List.{List}
 use Prim.Native.Nat.{ℕ, _+_, _-_, _<_, _≤_}
 use lib.ListN.{length}
-use Rattle.logic.specs.Expressions.{Expr, Const, Var, One, Two, Op1, Op2, node1, node2, levels, Narrow}
+use Rattle.logic.specs.Expressions.{Expr, Const, Var, One, Two, Op1, Op2, node1, node2, nodes as size, levels, Narrow}
 use Rattle.logic.specs.Decks.{Limits}
 use Rattle.logic.specs.Meaning.{Claim, Sized}
 use Rattle.logic.specs.Verdicts.{truth}
@@ -60,6 +60,10 @@ pub record Ready (nodes : List ℕ) (i : ℕ) (states : List ℕ) (p : ℕ) (wor
   pub room : Below (64 - left) words
   pub all : length words ≡ length states
   pub loop : p < length states
+
+-- The expression that stands in the nodes from place i on ends at place r.
+abbrev pub Ends : List ℕ → ℕ → ℕ → Type 0
+Ends nodes i r = (e : Expr) → Stands nodes i e → r ≡ i + size e
 
 -- The truth of the expression that stands in the nodes from place i on is worked out.
 abbrev pub Evaluated : List ℕ → ℕ → List ℕ → ℕ → List ℕ → List ℕ → Type 0

@@ -1,24 +1,9 @@
 // The truth of an expression at all states of a claim side by side: the recursion goes once a level.
 ghost use mathlib.Core.Path.{_≡_};
-ghost use Prim.Native.Nat.{ℕ, _+_, _<_, _≤_};
-ghost use lib.ListN.{length, getD};
+ghost use Prim.Native.Nat.{_<_};
+ghost use lib.ListN.{length};
 ghost use Rattle.evaluator.specs.Pending.{Below};
-ghost use Rattle.truths.specs.Worked.{Leaf, Applied1, Applied2, Ready, Evaluated};
-
-// The node as the number of a variable.
-fn number(node: u16) -> usize
-    ensures { λ r. ⌜ r ≡ node ⌝ }
-{
-    node as usize
-}
-
-// Node i.
-fn node_at(nodes: &[u16], i: usize) -> u16
-    requires { ⌜ i < length (now nodes) ⌝ }
-    ensures { λ r. ⌜ r ≡ getD (now (nodes .entry)) i 0 ⌝ }
-{
-    nodes[i]
-}
+ghost use Rattle.truths.specs.Worked.{Leaf, Applied1, Applied2, Ready, Ends, Evaluated};
 
 // A constant or variable.
 fn leaf(words: &mut [u64], states: &[u64], node: u16)
@@ -26,7 +11,7 @@ fn leaf(words: &mut [u64], states: &[u64], node: u16)
     ensures { λ _. ⌜ Leaf (now (states .entry)) node (now (words .entry)) (now (words .exit)) ⌝ }
 {
     if node < terms::VARIABLES_END {
-        evaluator::push_variable(words, states, number(node));
+        evaluator::push_variable(words, states, decks::wide(node));
         return;
     }
     if node == terms::ONE {
@@ -78,7 +63,7 @@ fn apply_two(words: &mut [u64], p: usize, node: u16)
     evaluator::weak(words, p);
 }
 
-// The expression that begins at `at`, of no more levels than are left, at every state.
+// The expression that begins at `at`, of no more levels than are left, at every state; and where it ends.
 pub fn evaluate<'a>(
     nodes: &'a [u16],
     at: usize,
@@ -86,22 +71,22 @@ pub fn evaluate<'a>(
     p: usize,
     words: &mut [u64],
     left: usize,
-)
+) -> usize
     requires { ⌜ Ready (now nodes) at (now states) p (now words) left ⌝ }
-    ensures { λ _. ⌜ Evaluated (now (nodes .entry)) at (now (states .entry)) p (now (words .entry)) (now (words .exit)) ⌝ }
+    ensures { λ r. ⌜ Ends (now (nodes .entry)) at r × Evaluated (now (nodes .entry)) at (now (states .entry)) p (now (words .entry)) (now (words .exit)) ⌝ }
 {
-    let node = node_at(nodes, at);
+    let node = decks::number_at(nodes, at);
     let operands = terms::places(node);
     if operands == 0 {
         leaf(words, states, node);
-        return;
+        return at + 1;
     }
-    evaluate(nodes, at + 1, states, p, words, left - 1);
+    let other = evaluate(nodes, at + 1, states, p, words, left - 1);
     if operands == 1 {
         apply_one(words, p, node);
-        return;
+        return other;
     }
-    let other = terms::second(nodes, at);
-    evaluate(nodes, other, states, p, words, left - 1);
+    let end = evaluate(nodes, other, states, p, words, left - 1);
     apply_two(words, p, node);
+    end
 }

@@ -4,7 +4,7 @@ use Rattle.cardlines.proofs.outside.Statement.{statement}
 use Rattle.cardlines.proofs.outside.Tie as tie
 use Rattle.cardlines.proofs.outside.Reads as reads
 use Rattle.cardlines.proofs.outside.Lts as lts
-use Rattle.cardlines.proofs.wide.Reads as wide-reads
+use Rattle.decks.proofs.wide.Reads as wide-reads
 use Rattle.terms.proofs.is_variable.Reads as is-variable-reads
 
 -- src/lib.rt:147:8

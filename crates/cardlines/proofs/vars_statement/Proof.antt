@@ -6,7 +6,7 @@ use Rattle.cardlines.proofs.vars_statement.Reads as reads
 use Rattle.cardlines.proofs.vars_statement.Lts as lts
 use Rattle.cardlines.proofs.at_end.Reads as at-end-reads
 use Rattle.cardlines.proofs.not_due.Reads as not-due-reads
-use Rattle.cardlines.proofs.wide.Reads as wide-reads
+use Rattle.decks.proofs.wide.Reads as wide-reads
 use Rattle.grammar.proofs.read_number.Reads as read-number-reads
 use Rattle.grammar.proofs.read_word.Reads as read-word-reads
 

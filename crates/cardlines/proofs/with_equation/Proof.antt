@@ -6,7 +6,7 @@ use Rattle.cardlines.proofs.with_equation.Tie as tie
 use Rattle.cardlines.proofs.with_equation.Reads as reads
 use Rattle.cardlines.proofs.with_equation.Lts as lts
 use Rattle.cardlines.proofs.stopped.Reads as stopped-reads
-use Rattle.cardlines.proofs.wide.Reads as wide-reads
+use Rattle.decks.proofs.wide.Reads as wide-reads
 use Rattle.sorting.proofs.put_equation.Reads as put-equation-reads
 
 -- src/lib.rt:323:19

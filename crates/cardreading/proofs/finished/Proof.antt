@@ -4,13 +4,10 @@ use Rattle.cardreading.proofs.finished.Statement.{statement}
 use Rattle.cardreading.proofs.finished.Tie as tie
 
 first-vars-requires : tie.Need-first-vars-requires
-first-vars-requires c κs = laws.vars-few _ _ _ _ _ _ (c .pre)
-
-slice-aggregate-left-set : tie.Need-slice-aggregate-left-set
-slice-aggregate-left-set c = search needs
+first-vars-requires c κs = laws.vars-few _ _ _ _ _ _ (c .before .before .before .before .before .pre)
 
 left-set-requires : tie.Need-left-set-requires
-left-set-requires c κs = laws.lefts-there _ _ _ _ _ _ (c .before .before .pre)
+left-set-requires c κs = laws.lefts-there _ _ _ _ _ _ (c .before .before .before .before .before .before .pre)
 
 without-requires : tie.Need-without-requires
 without-requires c κs = search needs
@@ -22,7 +19,7 @@ refused-requires : tie.Need-refused-requires
 refused-requires c κs = search needs
 
 returns : tie.Need-returns
-returns c = laws.lacks-one _ _ _ _ _ _ _ _ _ (c .before .before .before .before .before .before .first-vars .ensures) (c .before .before .before .before .left-set .ensures) (c .before .before .before .without .ensures) _ _ (c .before .before .if1 .taken) (c .before .lowest .ensures) (c .refused .ensures)
+returns c = laws.lacks-one _ _ _ _ _ _ _ _ _ (c .before .before .before .before .before .first-vars .ensures) (c .before .before .before .before .left-set .ensures) (c .before .before .before .without .ensures) _ _ (c .before .before .if1 .taken) (c .before .lowest .ensures) (c .refused .ensures)
 
 returns-2 : tie.Need-returns-2
 returns-2 c = search (needs, laws.lacks-none)
@@ -32,7 +29,6 @@ finished-spec =
     tie.close
     (tie.spec
     first-vars-requires
-    slice-aggregate-left-set
     left-set-requires
     without-requires
     lowest-requires

@@ -1,41 +1,44 @@
-use Rattle.cardreading.proofs.ReadLaws as laws
 use borrow.Author.Needs.{needs}
+use Rattle.cardreading.proofs.ReadLaws as laws
 use Rattle.cardreading.proofs.read_cards.Statement.{statement}
 use Rattle.cardreading.proofs.read_cards.Tie as tie
-use Rattle.cardreading.proofs.read_cards.Reads as reads
-use Rattle.cardreading.proofs.read_cards.Lts as lts
-use Rattle.decks.proofs.refused.Reads as refused-reads
-use Rattle.cardreading.proofs.second_pass.Reads as second-pass-reads
-use Rattle.firstpass.proofs.first_pass.Reads as first-pass-reads
 
--- src/lib.rt:178:9
 refused-requires : tie.Need-refused-requires
 refused-requires c κs = search needs
 
--- src/lib.rt:178:9
 returns : tie.Need-returns
 returns c = search (needs, laws.too-long)
 
--- src/lib.rt:180:9
 first-pass-requires : tie.Need-first-pass-requires
 first-pass-requires c κs = search needs
 
 enum-told : tie.Need-enum-told
 enum-told c = search needs
 
--- src/lib.rt:182:9
 refused-requires-2 : tie.Need-refused-requires-2
 refused-requires-2 c κs = search needs
 
--- src/lib.rt:182:9
 returns-2 : tie.Need-returns-2
 returns-2 c = search (needs, laws.not-in-form)
 
--- src/lib.rt:184:5
 second-pass-requires : tie.Need-second-pass-requires
 second-pass-requires c κs = search (needs, laws.in-form)
 
--- src/lib.rt:174:1
+same-length : tie.Need-same-length
+same-length c = search needs
+
+same-length-2 : tie.Need-same-length-2
+same-length-2 c = search needs
+
+same-length-3 : tie.Need-same-length-3
+same-length-3 c = search needs
+
+same-length-4 : tie.Need-same-length-4
+same-length-4 c = search needs
+
+same-length-5 : tie.Need-same-length-5
+same-length-5 c = search needs
+
 returns-3 : tie.Need-returns-3
 returns-3 c = search (needs, laws.in-form-read)
 
@@ -50,4 +53,9 @@ read-cards-spec =
     refused-requires-2
     returns-2
     second-pass-requires
+    same-length
+    same-length-2
+    same-length-3
+    same-length-4
+    same-length-5
     returns-3)

@@ -20,7 +20,7 @@ sizes-line-requires c κs = search needs
 
 -- src/lib.rt:119:9
 returns : tie.Need-returns
-returns c = search (needs, laws.line-sizes)
+returns c = search (needs, laws.line-sizes, laws.none-few)
 
 -- src/lib.rt:122:9
 bad-requires : tie.Need-bad-requires
@@ -28,7 +28,7 @@ bad-requires c κs = search needs
 
 -- src/lib.rt:122:9
 returns-2 : tie.Need-returns-2
-returns-2 c = search (needs, laws.line-none, laws.refused-small)
+returns-2 c = search (needs, laws.line-none, laws.refused-small, laws.refused-none, laws.none-few)
 
 -- src/lib.rt:124:9
 pair-at-requires : tie.Need-pair-at-requires
@@ -44,7 +44,7 @@ bad-requires-2 c κs = search needs
 
 -- src/lib.rt:127:13
 returns-3 : tie.Need-returns-3
-returns-3 c = search (needs, laws.state-kind, laws.refused-small)
+returns-3 c = search (needs, laws.state-kind, laws.refused-small, laws.refused-none, laws.none-few)
 
 -- src/lib.rt:129:38
 number-at-requires : tie.Need-number-at-requires
@@ -64,7 +64,7 @@ bad-requires-3 c κs = search needs
 
 -- src/lib.rt:130:13
 returns-4 : tie.Need-returns-4
-returns-4 c = search (needs, laws.state-number, laws.refused-small)
+returns-4 c = search (needs, laws.state-number, laws.refused-small, laws.refused-none, laws.none-few)
 
 -- src/lib.rt:132:13
 subset-requires : tie.Need-subset-requires
@@ -76,11 +76,11 @@ stopped-requires c κs = search needs
 
 -- src/lib.rt:133:13
 returns-5 : tie.Need-returns-5
-returns-5 c = search (needs, laws.state-outside, laws.refused-small)
+returns-5 c = search (needs, laws.state-outside, laws.refused-small, laws.refused-none, laws.none-few)
 
 -- src/lib.rt:135:9
 put-state-requires : tie.Need-put-state-requires
-put-state-requires c κs = search needs
+put-state-requires c κs = search laws.state-room
 
 -- src/lib.rt:143:24
 add-t18 : tie.Need-add-t18
@@ -88,11 +88,11 @@ add-t18 c = search needs
 
 -- src/lib.rt:136:9
 same-length : tie.Need-same-length
-same-length c = search needs
+same-length c = search (needs, laws.stored-long)
 
 -- src/lib.rt:136:9
 returns-6 : tie.Need-returns-6
-returns-6 c = search (needs, laws.state-fine)
+returns-6 c = search (needs, laws.state-fine, laws.state-few)
 
 -- src/lib.rt:148:9
 bad-requires-4 : tie.Need-bad-requires-4
@@ -100,7 +100,7 @@ bad-requires-4 c κs = search needs
 
 -- src/lib.rt:148:9
 returns-7 : tie.Need-returns-7
-returns-7 c = search (needs, laws.count-kind, laws.refused-small)
+returns-7 c = search (needs, laws.count-kind, laws.refused-small, laws.refused-none, laws.none-few)
 
 -- src/lib.rt:150:9
 counts-requires : tie.Need-counts-requires
@@ -112,11 +112,11 @@ bad-requires-5 c κs = search needs
 
 -- src/lib.rt:151:9
 returns-8 : tie.Need-returns-8
-returns-8 c = search (needs, laws.count-wrong, laws.refused-small)
+returns-8 c = search (needs, laws.count-wrong, laws.refused-small, laws.refused-none, laws.none-few)
 
 -- src/lib.rt:114:1
 returns-9 : tie.Need-returns-9
-returns-9 c = search (needs, laws.count-fine)
+returns-9 c = search (needs, laws.count-fine, laws.count-few)
 
 pub claim-line-spec : {M : Type 1} → statement M
 claim-line-spec =

@@ -19,7 +19,7 @@ bad-requires c κs = search needs
 
 -- src/lib.rt:88:9
 returns : tie.Need-returns
-returns c = search (needs, laws.sizes-kind, laws.refused-small)
+returns c = search (needs, laws.sizes-kind, laws.refused-small, laws.refused-none)
 
 -- src/lib.rt:90:34
 number-at-requires : tie.Need-number-at-requires
@@ -39,7 +39,7 @@ bad-requires-2 c κs = search needs
 
 -- src/lib.rt:91:9
 returns-2 : tie.Need-returns-2
-returns-2 c = search (needs, laws.sizes-number, laws.refused-small)
+returns-2 c = search (needs, laws.sizes-number, laws.refused-small, laws.refused-none)
 
 -- src/lib.rt:96:9
 bad-requires-3 : tie.Need-bad-requires-3
@@ -47,7 +47,7 @@ bad-requires-3 c κs = search needs
 
 -- src/lib.rt:96:9
 returns-3 : tie.Need-returns-3
-returns-3 c = search (needs, laws.sizes-none, laws.refused-small)
+returns-3 c = search (needs, laws.sizes-none, laws.refused-small, laws.refused-none)
 
 -- src/lib.rt:98:8
 add-if3 : tie.Need-add-if3
@@ -59,7 +59,7 @@ bad-requires-4 c κs = search needs
 
 -- src/lib.rt:99:9
 returns-4 : tie.Need-returns-4
-returns-4 c = search (needs, laws.sizes-many, laws.refused-small)
+returns-4 c = search (needs, laws.sizes-many, laws.refused-small, laws.refused-none)
 
 -- src/lib.rt:84:1
 returns-5 : tie.Need-returns-5

@@ -6,7 +6,7 @@ use Rattle.cones.proofs.dependencies.Tie as tie
 use Rattle.cones.proofs.dependencies.Reads as reads
 use Rattle.cones.proofs.dependencies.Lts as lts
 use Rattle.cones.proofs.add.Reads as add-reads
-use Rattle.cones.proofs.number_at.Reads as number-at-reads
+use Rattle.decks.proofs.place_at.Reads as place-at-reads
 use Rattle.terms.proofs.written_in.Reads as written-in-reads
 
 abbrev Inv-loop : tie.InvT-loop
@@ -20,12 +20,12 @@ loop-holds : tie.Need-loop-holds Inv-loop μ-loop
 loop-holds c = search (needs, laws.filling-starts)
 
 -- src/lib.rt:58:13
-number-at-requires : tie.Need-number-at-requires Inv-loop μ-loop
-number-at-requires c κs = search (needs, laws.left-here)
+place-at-requires : tie.Need-place-at-requires Inv-loop μ-loop
+place-at-requires c κs = search (needs, laws.left-here)
 
 -- src/lib.rt:59:13
-number-at-requires-2 : tie.Need-number-at-requires-2 Inv-loop μ-loop
-number-at-requires-2 c κs = search (needs, laws.end-here)
+place-at-requires-2 : tie.Need-place-at-requires-2 Inv-loop μ-loop
+place-at-requires-2 c κs = search (needs, laws.end-here)
 
 -- src/lib.rt:60:22
 written-in-requires : tie.Need-written-in-requires Inv-loop μ-loop
@@ -62,8 +62,8 @@ dependencies-spec =
     Inv-loop
     μ-loop
     loop-holds
-    number-at-requires
-    number-at-requires-2
+    place-at-requires
+    place-at-requires-2
     written-in-requires
     add-requires
     add-i

@@ -6,7 +6,7 @@ use Rattle.equations.proofs.count_of.Tie as tie
 use Rattle.equations.proofs.count_of.Reads as reads
 use Rattle.equations.proofs.count_of.Lts as lts
 use Rattle.equations.proofs.of_set.Reads as of-set-reads
-use Rattle.equations.proofs.place_of.Reads as place-of-reads
+use Rattle.decks.proofs.place_at.Reads as place-at-reads
 
 abbrev Inv-loop : tie.InvT-loop
 Inv-loop vars lefts count i₀ n₀ i n = (i ≤ count) × (n ≤ i) × laws.CountTo vars lefts count i n
@@ -19,8 +19,8 @@ loop-holds : tie.Need-loop-holds Inv-loop μ-loop
 loop-holds c = search needs
 
 -- src/lib.rt:112:13
-place-of-requires : tie.Need-place-of-requires Inv-loop μ-loop
-place-of-requires c κs = search needs
+place-at-requires : tie.Need-place-at-requires Inv-loop μ-loop
+place-at-requires c κs = search needs
 
 -- src/lib.rt:113:14
 of-set-requires : tie.Need-of-set-requires Inv-loop μ-loop
@@ -53,7 +53,7 @@ count-of-spec =
     Inv-loop
     μ-loop
     loop-holds
-    place-of-requires
+    place-at-requires
     of-set-requires
     add-n
     add-i

@@ -7,7 +7,7 @@ use Rattle.equations.proofs.equations_size.Tie as tie
 use Rattle.equations.proofs.equations_size.Reads as reads
 use Rattle.equations.proofs.equations_size.Lts as lts
 use Rattle.equations.proofs.of_set.Reads as of-set-reads
-use Rattle.equations.proofs.place_of.Reads as place-of-reads
+use Rattle.decks.proofs.place_at.Reads as place-at-reads
 
 abbrev Inv-loop : tie.InvT-loop
 Inv-loop vars lefts ends count i₀ from₀ n₀ i from n = (i ≤ count) × (n ≤ 131075 * i) × laws.SizeTo vars lefts ends count i from n
@@ -20,12 +20,12 @@ loop-holds : tie.Need-loop-holds Inv-loop μ-loop
 loop-holds c = search (needs, laws.size-start)
 
 -- src/lib.rt:128:13
-place-of-requires : tie.Need-place-of-requires Inv-loop μ-loop
-place-of-requires c κs = search (needs, laws.left-there)
+place-at-requires : tie.Need-place-at-requires Inv-loop μ-loop
+place-at-requires c κs = search (needs, laws.left-there)
 
 -- src/lib.rt:129:13
-place-of-requires-2 : tie.Need-place-of-requires-2 Inv-loop μ-loop
-place-of-requires-2 c κs = search (needs, laws.end-there)
+place-at-requires-2 : tie.Need-place-at-requires-2 Inv-loop μ-loop
+place-at-requires-2 c κs = search (needs, laws.end-there)
 
 -- src/lib.rt:130:38
 sub-of-set : tie.Need-sub-of-set Inv-loop μ-loop
@@ -70,8 +70,8 @@ equations-size-spec =
     Inv-loop
     μ-loop
     loop-holds
-    place-of-requires
-    place-of-requires-2
+    place-at-requires
+    place-at-requires-2
     sub-of-set
     mul-of-set
     add-of-set

@@ -7,7 +7,7 @@ use Rattle.equations.proofs.put_equations.Statement.{statement}
 use Rattle.equations.proofs.put_equations.Tie as tie
 use Rattle.equations.proofs.put_equations.Reads as reads
 use Rattle.equations.proofs.put_equations.Lts as lts
-use Rattle.equations.proofs.place_of.Reads as place-of-reads
+use Rattle.decks.proofs.place_at.Reads as place-at-reads
 use Rattle.equations.proofs.put_chosen.Reads as put-chosen-reads
 
 abbrev Inv-loop : tie.InvT-loop
@@ -21,12 +21,12 @@ loop-holds : tie.Need-loop-holds Inv-loop μ-loop
 loop-holds c = search (needs, laws.equations-start)
 
 -- src/lib.rt:63:13
-place-of-requires : tie.Need-place-of-requires Inv-loop μ-loop
-place-of-requires c κs = search (needs, laws.left-there)
+place-at-requires : tie.Need-place-at-requires Inv-loop μ-loop
+place-at-requires c κs = search (needs, laws.left-there)
 
 -- src/lib.rt:64:13
-place-of-requires-2 : tie.Need-place-of-requires-2 Inv-loop μ-loop
-place-of-requires-2 c κs = search (needs, laws.end-there)
+place-at-requires-2 : tie.Need-place-at-requires-2 Inv-loop μ-loop
+place-at-requires-2 c κs = search (needs, laws.end-there)
 
 -- src/lib.rt:65:28
 sub-put-chosen : tie.Need-sub-put-chosen Inv-loop μ-loop
@@ -75,8 +75,8 @@ put-equations-spec =
     Inv-loop
     μ-loop
     loop-holds
-    place-of-requires
-    place-of-requires-2
+    place-at-requires
+    place-at-requires-2
     sub-put-chosen
     part-put-chosen-start
     part-put-chosen-end

@@ -9,7 +9,7 @@ use Rattle.pieces.proofs.pieces_size.Statement.{statement}
 use Rattle.pieces.proofs.pieces_size.Tie as tie
 use Rattle.pieces.proofs.pieces_size.Reads as reads
 use Rattle.pieces.proofs.pieces_size.Lts as lts
-use Rattle.conjuncts.proofs.place_at.Reads as place-at-reads
+use Rattle.decks.proofs.place_at.Reads as place-at-reads
 use Rattle.pieces.proofs.piece_size.Reads as piece-size-reads
 
 abbrev Inv-loop : tie.InvT-loop
@@ -45,7 +45,7 @@ place-at-requires-2 c κs = search (needs, laws.second-place)
 
 -- src/lib.rt:91:14
 piece-size-requires : tie.Need-piece-size-requires Inv-loop μ-loop
-piece-size-requires c κs = laws.placed-some _ _ _ _ _ _ _ _ _ _ _ (c .before .before .loop-test .taken) _ _ (c .before .place-at .ensures) (c .place-at2 .ensures) _ (c .before .before .before .before .before .before .before .before .before .before .before .pre .1)
+piece-size-requires c κs = laws.placed-some _ _ _ _ _ _ _ _ _ _ _ (c .before .before .loop-test .taken) _ _ (c .before .place-at .ensures .0) (c .place-at2 .ensures .0) _ (c .before .before .before .before .before .before .before .before .before .before .before .pre .1)
 
 -- src/lib.rt:91:9
 add-n : tie.Need-add-n Inv-loop μ-loop

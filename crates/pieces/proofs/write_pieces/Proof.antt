@@ -8,7 +8,7 @@ use Rattle.pieces.proofs.write_pieces.Statement.{statement}
 use Rattle.pieces.proofs.write_pieces.Tie as tie
 use Rattle.pieces.proofs.write_pieces.Reads as reads
 use Rattle.pieces.proofs.write_pieces.Lts as lts
-use Rattle.conjuncts.proofs.place_at.Reads as place-at-reads
+use Rattle.decks.proofs.place_at.Reads as place-at-reads
 use Rattle.pieces.proofs.write_piece.Reads as write-piece-reads
 
 abbrev Inv-loop : tie.InvT-loop
@@ -56,11 +56,11 @@ part-write-piece-end c = search needs
 
 -- src/lib.rt:121:13
 write-piece-requires : tie.Need-write-piece-requires Inv-loop μ-loop
-write-piece-requires c κs = laws.free-some _ _ _ _ _ _ _ _ _ _ (c .before .before .before .before .before .before .before .before .before .before .before .before .before .args .out .now) (c .before .before .before .before .loop .i) (c .before .before .before .before .loop .used) (c .before .before .before .before .loop .out) (c .before .before .before .loop-test .taken) (c .before .before .before .before .loop .inv .1) (c .before .before .before .before .loop .inv .2) _ _ (c .before .before .place-at .ensures) (c .before .place-at2 .ensures) _ (c .before .before .before .before .before .before .before .before .before .before .before .before .before .pre .1) (c .before .before .before .before .before .before .before .before .before .before .before .before .before .pre .2)
+write-piece-requires c κs = laws.free-some _ _ _ _ _ _ _ _ _ _ (c .before .before .before .before .before .before .before .before .before .before .before .before .before .args .out .now) (c .before .before .before .before .loop .i) (c .before .before .before .before .loop .used) (c .before .before .before .before .loop .out) (c .before .before .before .loop-test .taken) (c .before .before .before .before .loop .inv .1) (c .before .before .before .before .loop .inv .2) _ _ (c .before .before .place-at .ensures .0) (c .before .place-at2 .ensures .0) _ (c .before .before .before .before .before .before .before .before .before .before .before .before .before .pre .1) (c .before .before .before .before .before .before .before .before .before .before .before .before .before .pre .2)
 
 -- src/lib.rt:134:9
 add-used : tie.Need-add-used Inv-loop μ-loop
-add-used c = laws.used-fits _ _ _ _ _ _ _ _ _ _ (c .before .before .before .before .before .before .before .before .before .before .before .before .before .before .before .before .args .out .now) (c .before .before .before .before .before .before .before .loop .i) (c .before .before .before .before .before .before .before .loop .used) (c .before .before .before .before .before .before .before .loop .out) (c .before .before .before .before .before .before .loop-test .taken) (c .before .before .before .before .before .before .before .loop .inv .1) (c .before .before .before .before .before .before .before .loop .inv .2) _ _ (c .before .before .before .before .before .place-at .ensures) (c .before .before .before .before .place-at2 .ensures) _ _ (c .before .before .write-piece .ensures) _ (c .before .before .before .before .before .before .before .before .before .before .before .before .before .before .before .before .pre .1) (c .before .before .before .before .before .before .before .before .before .before .before .before .before .before .before .before .pre .2)
+add-used c = laws.used-fits _ _ _ _ _ _ _ _ _ _ (c .before .before .before .before .before .before .before .before .before .before .before .before .before .before .before .before .args .out .now) (c .before .before .before .before .before .before .before .loop .i) (c .before .before .before .before .before .before .before .loop .used) (c .before .before .before .before .before .before .before .loop .out) (c .before .before .before .before .before .before .loop-test .taken) (c .before .before .before .before .before .before .before .loop .inv .1) (c .before .before .before .before .before .before .before .loop .inv .2) _ _ (c .before .before .before .before .before .place-at .ensures .0) (c .before .before .before .before .place-at2 .ensures .0) _ _ (c .before .before .write-piece .ensures) _ (c .before .before .before .before .before .before .before .before .before .before .before .before .before .before .before .before .pre .1) (c .before .before .before .before .before .before .before .before .before .before .before .before .before .before .before .before .pre .2)
 
 -- src/lib.rt:135:9
 add-i : tie.Need-add-i Inv-loop μ-loop
@@ -72,7 +72,7 @@ loop-less c = search needs
 
 -- src/lib.rt:118:5
 loop-again : tie.Need-loop-again Inv-loop μ-loop
-loop-again c = (omega arith, search needs, laws.filling-on _ _ _ _ _ _ _ _ _ _ (c .before .before .before .before .before .before .before .before .before .before .before .before .before .before .before .before .args .out .now) (c .before .before .before .before .before .before .before .loop .i) (c .before .before .before .before .before .before .before .loop .used) (c .before .before .before .before .before .before .before .loop .out) (c .before .before .before .before .before .before .loop-test .taken) (c .before .before .before .before .before .before .before .loop .inv .1) (c .before .before .before .before .before .before .before .loop .inv .2) _ _ (c .before .before .before .before .before .place-at .ensures) (c .before .before .before .before .place-at2 .ensures) _ _ (c .before .before .write-piece .ensures))
+loop-again c = (omega arith, search needs, laws.filling-on _ _ _ _ _ _ _ _ _ _ (c .before .before .before .before .before .before .before .before .before .before .before .before .before .before .before .before .args .out .now) (c .before .before .before .before .before .before .before .loop .i) (c .before .before .before .before .before .before .before .loop .used) (c .before .before .before .before .before .before .before .loop .out) (c .before .before .before .before .before .before .loop-test .taken) (c .before .before .before .before .before .before .before .loop .inv .1) (c .before .before .before .before .before .before .before .loop .inv .2) _ _ (c .before .before .before .before .before .place-at .ensures .0) (c .before .before .before .before .place-at2 .ensures .0) _ _ (c .before .before .write-piece .ensures))
 
 -- src/lib.rt:100:1
 same-length : tie.Need-same-length Inv-loop μ-loop

@@ -1,24 +1,79 @@
 use mathlib.Core.Path.{_∙_}
+use Rattle.station.proofs.OperationLaws as laws
 use borrow.Author.Needs.{needs}
 use Rattle.station.proofs.check.Statement.{statement}
 use Rattle.station.proofs.check.Tie as tie
 use Rattle.station.proofs.check.Reads as reads
 use Rattle.station.proofs.check.Lts as lts
-use Rattle.station.proofs.OperationLaws as laws
 use Rattle.reading.proofs.read_deck.Reads as read-deck-reads
 use Rattle.station.proofs.checked.Reads as checked-reads
 
--- src/lib.rt:192:13
+-- src/lib.rt:451:9
+slice-aggregate-read-deck : tie.Need-slice-aggregate-read-deck
+slice-aggregate-read-deck c = search needs
+
+-- src/lib.rt:452:9
+slice-aggregate-read-deck-2 : tie.Need-slice-aggregate-read-deck-2
+slice-aggregate-read-deck-2 c = search needs
+
+-- src/lib.rt:453:9
+slice-aggregate-read-deck-3 : tie.Need-slice-aggregate-read-deck-3
+slice-aggregate-read-deck-3 c = search needs
+
+-- src/lib.rt:454:9
+slice-aggregate-read-deck-4 : tie.Need-slice-aggregate-read-deck-4
+slice-aggregate-read-deck-4 c = search needs
+
+-- src/lib.rt:455:9
+slice-aggregate-read-deck-5 : tie.Need-slice-aggregate-read-deck-5
+slice-aggregate-read-deck-5 c = search needs
+
+-- src/lib.rt:449:9
 read-deck-requires : tie.Need-read-deck-requires
 read-deck-requires c κs = search needs
 
--- src/lib.rt:192:5
-checked-requires : tie.Need-checked-requires
-checked-requires c κs = laws.frames-read _ _ (c .read-deck .ensures)
+-- src/lib.rt:457:19
+slice-aggregate-checked : tie.Need-slice-aggregate-checked
+slice-aggregate-checked c = search needs
 
--- src/lib.rt:189:1
+-- src/lib.rt:457:27
+slice-aggregate-checked-2 : tie.Need-slice-aggregate-checked-2
+slice-aggregate-checked-2 c = search needs
+
+-- src/lib.rt:457:35
+slice-aggregate-checked-3 : tie.Need-slice-aggregate-checked-3
+slice-aggregate-checked-3 c = search needs
+
+-- src/lib.rt:457:42
+slice-aggregate-checked-4 : tie.Need-slice-aggregate-checked-4
+slice-aggregate-checked-4 c = search needs
+
+-- src/lib.rt:457:50
+slice-aggregate-checked-5 : tie.Need-slice-aggregate-checked-5
+slice-aggregate-checked-5 c = search needs
+
+-- src/lib.rt:457:5
+checked-requires : tie.Need-checked-requires
+checked-requires c κs = laws.frames-read _ _ _ _ _ _ _ (c .before .before .before .before .before .before .before .before .before .before .read-deck .ensures)
+
+-- src/lib.rt:441:1
 returns : tie.Need-returns
-returns c = let p = laws.frames-read _ _ (c .before .read-deck .ensures) in c .checked .ensures (p .0) (p .1) (p .2) ∙ laws.checked-is _ _
+returns c = let p = laws.frames-read _ _ _ _ _ _ _ (c .before .before .before .before .before .before .before .before .before .before .before .read-deck .ensures) in c .checked .ensures (p .0) (p .1) (p .2) ∙ laws.checked-is _ _
 
 pub check-spec : {M : Type 1} → statement M
-check-spec = tie.close (tie.spec read-deck-requires checked-requires returns)
+check-spec =
+    tie.close
+    (tie.spec
+    slice-aggregate-read-deck
+    slice-aggregate-read-deck-2
+    slice-aggregate-read-deck-3
+    slice-aggregate-read-deck-4
+    slice-aggregate-read-deck-5
+    read-deck-requires
+    slice-aggregate-checked
+    slice-aggregate-checked-2
+    slice-aggregate-checked-3
+    slice-aggregate-checked-4
+    slice-aggregate-checked-5
+    checked-requires
+    returns)

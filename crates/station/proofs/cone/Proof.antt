@@ -1,23 +1,68 @@
+use Rattle.station.proofs.OperationLaws as laws
 use borrow.Author.Needs.{needs}
 use Rattle.station.proofs.cone.Statement.{statement}
 use Rattle.station.proofs.cone.Tie as tie
 use Rattle.station.proofs.cone.Reads as reads
 use Rattle.station.proofs.cone.Lts as lts
-use Rattle.station.proofs.OperationLaws as laws
 use Rattle.reading.proofs.read_deck.Reads as read-deck-reads
 use Rattle.station.proofs.closed.Reads as closed-reads
 
--- src/lib.rt:185:12
+-- src/lib.rt:431:9
+slice-aggregate-read-deck : tie.Need-slice-aggregate-read-deck
+slice-aggregate-read-deck c = search needs
+
+-- src/lib.rt:432:9
+slice-aggregate-read-deck-2 : tie.Need-slice-aggregate-read-deck-2
+slice-aggregate-read-deck-2 c = search needs
+
+-- src/lib.rt:433:9
+slice-aggregate-read-deck-3 : tie.Need-slice-aggregate-read-deck-3
+slice-aggregate-read-deck-3 c = search needs
+
+-- src/lib.rt:434:9
+slice-aggregate-read-deck-4 : tie.Need-slice-aggregate-read-deck-4
+slice-aggregate-read-deck-4 c = search needs
+
+-- src/lib.rt:435:9
+slice-aggregate-read-deck-5 : tie.Need-slice-aggregate-read-deck-5
+slice-aggregate-read-deck-5 c = search needs
+
+-- src/lib.rt:429:9
 read-deck-requires : tie.Need-read-deck-requires
 read-deck-requires c κs = search needs
 
--- src/lib.rt:185:5
-closed-requires : tie.Need-closed-requires
-closed-requires c κs = laws.frames-read _ _ (c .read-deck .ensures)
+-- src/lib.rt:437:18
+slice-aggregate-closed : tie.Need-slice-aggregate-closed
+slice-aggregate-closed c = search needs
 
--- src/lib.rt:182:1
+-- src/lib.rt:437:26
+slice-aggregate-closed-2 : tie.Need-slice-aggregate-closed-2
+slice-aggregate-closed-2 c = search needs
+
+-- src/lib.rt:437:33
+slice-aggregate-closed-3 : tie.Need-slice-aggregate-closed-3
+slice-aggregate-closed-3 c = search needs
+
+-- src/lib.rt:437:5
+closed-requires : tie.Need-closed-requires
+closed-requires c κs = (_, laws.frames-readable _, _, _, c .before .before .before .before .before .before .before .before .read-deck .ensures)
+
+-- src/lib.rt:421:1
 returns : tie.Need-returns
-returns c = let p = laws.frames-read _ _ (c .before .read-deck .ensures) in c .closed .ensures (p .0) (p .1) (p .2)
+returns c = c .closed .ensures _ _ _ (laws.frames-readable _) (c .before .before .before .before .before .before .before .before .before .read-deck .ensures)
 
 pub cone-spec : {M : Type 1} → statement M
-cone-spec = tie.close (tie.spec read-deck-requires closed-requires returns)
+cone-spec =
+    tie.close
+    (tie.spec
+    slice-aggregate-read-deck
+    slice-aggregate-read-deck-2
+    slice-aggregate-read-deck-3
+    slice-aggregate-read-deck-4
+    slice-aggregate-read-deck-5
+    read-deck-requires
+    slice-aggregate-closed
+    slice-aggregate-closed-2
+    slice-aggregate-closed-3
+    closed-requires
+    returns)

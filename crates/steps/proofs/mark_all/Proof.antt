@@ -7,7 +7,7 @@ use Rattle.steps.proofs.mark_all.Tie as tie
 use Rattle.steps.proofs.mark_all.Reads as reads
 use Rattle.steps.proofs.mark_all.Lts as lts
 use Rattle.steps.proofs.mark_equation.Reads as mark-equation-reads
-use Rattle.steps.proofs.number_at.Reads as number-at-reads
+use Rattle.decks.proofs.place_at.Reads as place-at-reads
 
 abbrev Inv-loop : tie.InvT-loop
 Inv-loop lefts ends nodes equations states p words₀ marks₀ i₀ at₀ words marks i at = (i ≤ equations) × (words ≡ words₀) × laws.Marking lefts ends nodes equations states p marks₀ marks i at
@@ -20,8 +20,8 @@ loop-holds : tie.Need-loop-holds Inv-loop μ-loop
 loop-holds c = search (needs, laws.marking-starts)
 
 -- src/lib.rt:122:13
-number-at-requires : tie.Need-number-at-requires Inv-loop μ-loop
-number-at-requires c κs = search (needs, laws.left-here)
+place-at-requires : tie.Need-place-at-requires Inv-loop μ-loop
+place-at-requires c κs = search (needs, laws.left-here)
 
 -- src/lib.rt:123:9
 mark-equation-requires : tie.Need-mark-equation-requires Inv-loop μ-loop
@@ -30,8 +30,8 @@ mark-equation-requires c κs =
     laws.equation-ready _ _ _ _ _ _ _ _ _ _ (c .before .before .before .loop-test .taken) (c .before .before .before .before .loop .inv .2) (pre .0 .0) (pre .0 .1) _ _ (c .before .before .before .before .loop .inv .1) (pre .1) (pre .2) (pre .4)
 
 -- src/lib.rt:124:9
-number-at-requires-2 : tie.Need-number-at-requires-2 Inv-loop μ-loop
-number-at-requires-2 c κs =
+place-at-requires-2 : tie.Need-place-at-requires-2 Inv-loop μ-loop
+place-at-requires-2 c κs =
     let pre = c .before .before .before .before .before .before .before .before .before .before .before .before .before .before .before .before .pre in
     laws.end-here _ _ _ _ _ (pre .0 .0) (pre .0 .1) (c .before .before .before .before .before .before .before .before .loop-test .taken)
 
@@ -66,9 +66,9 @@ mark-all-spec =
     Inv-loop
     μ-loop
     loop-holds
-    number-at-requires
+    place-at-requires
     mark-equation-requires
-    number-at-requires-2
+    place-at-requires-2
     add-i
     loop-less
     loop-again

@@ -1,4 +1,3 @@
-use native.Mathlib.Omega.{arith}
 use borrow.Author.Needs.{needs}
 use Rattle.truths.proofs.Laws as laws
 use Prim.Native.Nat.{ℕ, _<_}
@@ -8,11 +7,10 @@ use Rattle.truths.proofs.evaluate.Reads as evaluate
 use Rattle.truths.proofs.evaluate.Kinds as evaluate-kinds
 use Rattle.truths.proofs.+evaluate.Lts-evaluate as evaluate-lts
 use Rattle.terms.proofs.places.Reads as places-reads
-use Rattle.terms.proofs.second.Reads as second-reads
 use Rattle.truths.proofs.apply_one.Reads as apply-one-reads
 use Rattle.truths.proofs.apply_two.Reads as apply-two-reads
 use Rattle.truths.proofs.leaf.Reads as leaf-reads
-use Rattle.truths.proofs.node_at.Reads as node-at-reads
+use Rattle.decks.proofs.number_at.Reads as number-at-reads
 use Rattle.truths.proofs.+evaluate.{statement}
 use Rattle.truths.proofs.+evaluate.Tie.{close}
 
@@ -27,9 +25,9 @@ evaluate-below t =
     and 2 evaluate-kinds.ps (falls 2 evaluate-kinds.ps _<_ μ-evaluate t) evaluate.Pre
 
 -- src/lib.rt:93:9
-evaluate-node-at-requires : (t : ℕ) → evaluate-lts.Need-node-at-requires (
-  node-at-reads.Asked,
-  node-at-reads.Learnt,
+evaluate-number-at-requires : (t : ℕ) → evaluate-lts.Need-number-at-requires (
+  number-at-reads.Asked,
+  number-at-reads.Learnt,
   places-reads.Asked,
   places-reads.Learnt,
   leaf-reads.Asked,
@@ -38,17 +36,15 @@ evaluate-node-at-requires : (t : ℕ) → evaluate-lts.Need-node-at-requires (
   evaluate.Post,
   apply-one-reads.Asked,
   apply-one-reads.Learnt,
-  second-reads.Asked,
-  second-reads.Learnt,
   apply-two-reads.Asked,
   apply-two-reads.Learnt,
 ) (evaluate-at t) evaluate.Post
-evaluate-node-at-requires t c κs = search (needs, laws.node-within)
+evaluate-number-at-requires t c κs = search (needs, laws.node-within)
 
 -- src/lib.rt:94:9
 evaluate-places-requires : (t : ℕ) → evaluate-lts.Need-places-requires (
-  node-at-reads.Asked,
-  node-at-reads.Learnt,
+  number-at-reads.Asked,
+  number-at-reads.Learnt,
   places-reads.Asked,
   places-reads.Learnt,
   leaf-reads.Asked,
@@ -57,8 +53,6 @@ evaluate-places-requires : (t : ℕ) → evaluate-lts.Need-places-requires (
   evaluate.Post,
   apply-one-reads.Asked,
   apply-one-reads.Learnt,
-  second-reads.Asked,
-  second-reads.Learnt,
   apply-two-reads.Asked,
   apply-two-reads.Learnt,
 ) (evaluate-at t) evaluate.Post
@@ -66,8 +60,8 @@ evaluate-places-requires t c κs = search needs
 
 -- src/lib.rt:96:9
 evaluate-leaf-requires : (t : ℕ) → evaluate-lts.Need-leaf-requires (
-  node-at-reads.Asked,
-  node-at-reads.Learnt,
+  number-at-reads.Asked,
+  number-at-reads.Learnt,
   places-reads.Asked,
   places-reads.Learnt,
   leaf-reads.Asked,
@@ -76,17 +70,15 @@ evaluate-leaf-requires : (t : ℕ) → evaluate-lts.Need-leaf-requires (
   evaluate.Post,
   apply-one-reads.Asked,
   apply-one-reads.Learnt,
-  second-reads.Asked,
-  second-reads.Learnt,
   apply-two-reads.Asked,
   apply-two-reads.Learnt,
 ) (evaluate-at t) evaluate.Post
 evaluate-leaf-requires t c κs = search (needs, laws.leaf-ready)
 
--- src/lib.rt:97:9
-evaluate-same-length : (t : ℕ) → evaluate-lts.Need-same-length (
-  node-at-reads.Asked,
-  node-at-reads.Learnt,
+-- src/lib.rt:97:16
+evaluate-add-result : (t : ℕ) → evaluate-lts.Need-add-result (
+  number-at-reads.Asked,
+  number-at-reads.Learnt,
   places-reads.Asked,
   places-reads.Learnt,
   leaf-reads.Asked,
@@ -95,8 +87,23 @@ evaluate-same-length : (t : ℕ) → evaluate-lts.Need-same-length (
   evaluate.Post,
   apply-one-reads.Asked,
   apply-one-reads.Learnt,
-  second-reads.Asked,
-  second-reads.Learnt,
+  apply-two-reads.Asked,
+  apply-two-reads.Learnt,
+) (evaluate-at t) evaluate.Post
+evaluate-add-result t c = search (needs, laws.next-fits)
+
+-- src/lib.rt:97:9
+evaluate-same-length : (t : ℕ) → evaluate-lts.Need-same-length (
+  number-at-reads.Asked,
+  number-at-reads.Learnt,
+  places-reads.Asked,
+  places-reads.Learnt,
+  leaf-reads.Asked,
+  leaf-reads.Learnt,
+  evaluate-below t,
+  evaluate.Post,
+  apply-one-reads.Asked,
+  apply-one-reads.Learnt,
   apply-two-reads.Asked,
   apply-two-reads.Learnt,
 ) (evaluate-at t) evaluate.Post
@@ -104,8 +111,8 @@ evaluate-same-length t c = search needs
 
 -- src/lib.rt:97:9
 evaluate-returns : (t : ℕ) → evaluate-lts.Need-returns (
-  node-at-reads.Asked,
-  node-at-reads.Learnt,
+  number-at-reads.Asked,
+  number-at-reads.Learnt,
   places-reads.Asked,
   places-reads.Learnt,
   leaf-reads.Asked,
@@ -114,17 +121,15 @@ evaluate-returns : (t : ℕ) → evaluate-lts.Need-returns (
   evaluate.Post,
   apply-one-reads.Asked,
   apply-one-reads.Learnt,
-  second-reads.Asked,
-  second-reads.Learnt,
   apply-two-reads.Asked,
   apply-two-reads.Learnt,
 ) (evaluate-at t) evaluate.Post
-evaluate-returns t c = search (needs, laws.leaf-evaluated)
+evaluate-returns t c = search (needs, laws.leaf-ends, laws.leaf-evaluated)
 
--- src/lib.rt:99:21
+-- src/lib.rt:99:33
 evaluate-add-evaluate : (t : ℕ) → evaluate-lts.Need-add-evaluate (
-  node-at-reads.Asked,
-  node-at-reads.Learnt,
+  number-at-reads.Asked,
+  number-at-reads.Learnt,
   places-reads.Asked,
   places-reads.Learnt,
   leaf-reads.Asked,
@@ -133,17 +138,15 @@ evaluate-add-evaluate : (t : ℕ) → evaluate-lts.Need-add-evaluate (
   evaluate.Post,
   apply-one-reads.Asked,
   apply-one-reads.Learnt,
-  second-reads.Asked,
-  second-reads.Learnt,
   apply-two-reads.Asked,
   apply-two-reads.Learnt,
 ) (evaluate-at t) evaluate.Post
-evaluate-add-evaluate t c = omega (arith, laws.node-within _ _ _ _ _ _ (c .before .before .before .before .before .before .pre .1))
+evaluate-add-evaluate t c = search (needs, laws.next-fits)
 
--- src/lib.rt:99:47
+-- src/lib.rt:99:59
 evaluate-sub-evaluate : (t : ℕ) → evaluate-lts.Need-sub-evaluate (
-  node-at-reads.Asked,
-  node-at-reads.Learnt,
+  number-at-reads.Asked,
+  number-at-reads.Learnt,
   places-reads.Asked,
   places-reads.Learnt,
   leaf-reads.Asked,
@@ -152,17 +155,15 @@ evaluate-sub-evaluate : (t : ℕ) → evaluate-lts.Need-sub-evaluate (
   evaluate.Post,
   apply-one-reads.Asked,
   apply-one-reads.Learnt,
-  second-reads.Asked,
-  second-reads.Learnt,
   apply-two-reads.Asked,
   apply-two-reads.Learnt,
 ) (evaluate-at t) evaluate.Post
 evaluate-sub-evaluate t c = search (needs, laws.left-some)
 
--- src/lib.rt:99:5
+-- src/lib.rt:99:9
 evaluate-evaluate-requires : (t : ℕ) → evaluate-lts.Need-evaluate-requires (
-  node-at-reads.Asked,
-  node-at-reads.Learnt,
+  number-at-reads.Asked,
+  number-at-reads.Learnt,
   places-reads.Asked,
   places-reads.Learnt,
   leaf-reads.Asked,
@@ -171,18 +172,15 @@ evaluate-evaluate-requires : (t : ℕ) → evaluate-lts.Need-evaluate-requires (
   evaluate.Post,
   apply-one-reads.Asked,
   apply-one-reads.Learnt,
-  second-reads.Asked,
-  second-reads.Learnt,
   apply-two-reads.Asked,
   apply-two-reads.Learnt,
 ) (evaluate-at t) evaluate.Post
-evaluate-evaluate-requires t c κs =
-    (omega (arith, laws.left-some _ _ _ _ _ _ (c .before .before .before .before .before .before .before .pre .1)), search (needs, laws.first-ready))
+evaluate-evaluate-requires t c κs = search (needs, laws.left-falls, laws.first-ready)
 
 -- src/lib.rt:101:9
 evaluate-apply-one-requires : (t : ℕ) → evaluate-lts.Need-apply-one-requires (
-  node-at-reads.Asked,
-  node-at-reads.Learnt,
+  number-at-reads.Asked,
+  number-at-reads.Learnt,
   places-reads.Asked,
   places-reads.Learnt,
   leaf-reads.Asked,
@@ -191,18 +189,15 @@ evaluate-apply-one-requires : (t : ℕ) → evaluate-lts.Need-apply-one-requires
   evaluate.Post,
   apply-one-reads.Asked,
   apply-one-reads.Learnt,
-  second-reads.Asked,
-  second-reads.Learnt,
   apply-two-reads.Asked,
   apply-two-reads.Learnt,
 ) (evaluate-at t) evaluate.Post
-evaluate-apply-one-requires t c κs =
-    laws.one-ready _ _ _ _ _ _ (c .before .before .before .before .before .before .before .before .before .before .before .before .pre .1) _ _ (c .before .before .before .before .before .before .before .before .node-at .ensures) (c .before .before .before .before .before .before .before .places .ensures) _ (c .before .if2 .taken) (c .before .before .before .before .evaluate .ensures)
+evaluate-apply-one-requires t c κs = search (needs, laws.one-room, laws.one-long)
 
 -- src/lib.rt:102:9
 evaluate-same-length-2 : (t : ℕ) → evaluate-lts.Need-same-length-2 (
-  node-at-reads.Asked,
-  node-at-reads.Learnt,
+  number-at-reads.Asked,
+  number-at-reads.Learnt,
   places-reads.Asked,
   places-reads.Learnt,
   leaf-reads.Asked,
@@ -211,8 +206,6 @@ evaluate-same-length-2 : (t : ℕ) → evaluate-lts.Need-same-length-2 (
   evaluate.Post,
   apply-one-reads.Asked,
   apply-one-reads.Learnt,
-  second-reads.Asked,
-  second-reads.Learnt,
   apply-two-reads.Asked,
   apply-two-reads.Learnt,
 ) (evaluate-at t) evaluate.Post
@@ -220,8 +213,8 @@ evaluate-same-length-2 t c = search needs
 
 -- src/lib.rt:102:9
 evaluate-returns-2 : (t : ℕ) → evaluate-lts.Need-returns-2 (
-  node-at-reads.Asked,
-  node-at-reads.Learnt,
+  number-at-reads.Asked,
+  number-at-reads.Learnt,
   places-reads.Asked,
   places-reads.Learnt,
   leaf-reads.Asked,
@@ -230,36 +223,15 @@ evaluate-returns-2 : (t : ℕ) → evaluate-lts.Need-returns-2 (
   evaluate.Post,
   apply-one-reads.Asked,
   apply-one-reads.Learnt,
-  second-reads.Asked,
-  second-reads.Learnt,
   apply-two-reads.Asked,
   apply-two-reads.Learnt,
 ) (evaluate-at t) evaluate.Post
-evaluate-returns-2 t c = search (needs, laws.one-evaluated)
+evaluate-returns-2 t c = search (needs, laws.one-ends, laws.one-evaluated)
 
--- src/lib.rt:104:9
-evaluate-second-requires : (t : ℕ) → evaluate-lts.Need-second-requires (
-  node-at-reads.Asked,
-  node-at-reads.Learnt,
-  places-reads.Asked,
-  places-reads.Learnt,
-  leaf-reads.Asked,
-  leaf-reads.Learnt,
-  evaluate-below t,
-  evaluate.Post,
-  apply-one-reads.Asked,
-  apply-one-reads.Learnt,
-  second-reads.Asked,
-  second-reads.Learnt,
-  apply-two-reads.Asked,
-  apply-two-reads.Learnt,
-) (evaluate-at t) evaluate.Post
-evaluate-second-requires t c κs = search (needs, laws.node-within)
-
--- src/lib.rt:105:46
+-- src/lib.rt:104:56
 evaluate-sub-evaluate-2 : (t : ℕ) → evaluate-lts.Need-sub-evaluate-2 (
-  node-at-reads.Asked,
-  node-at-reads.Learnt,
+  number-at-reads.Asked,
+  number-at-reads.Learnt,
   places-reads.Asked,
   places-reads.Learnt,
   leaf-reads.Asked,
@@ -268,17 +240,15 @@ evaluate-sub-evaluate-2 : (t : ℕ) → evaluate-lts.Need-sub-evaluate-2 (
   evaluate.Post,
   apply-one-reads.Asked,
   apply-one-reads.Learnt,
-  second-reads.Asked,
-  second-reads.Learnt,
   apply-two-reads.Asked,
   apply-two-reads.Learnt,
 ) (evaluate-at t) evaluate.Post
 evaluate-sub-evaluate-2 t c = search (needs, laws.left-some)
 
--- src/lib.rt:105:5
+-- src/lib.rt:104:9
 evaluate-evaluate-requires-2 : (t : ℕ) → evaluate-lts.Need-evaluate-requires-2 (
-  node-at-reads.Asked,
-  node-at-reads.Learnt,
+  number-at-reads.Asked,
+  number-at-reads.Learnt,
   places-reads.Asked,
   places-reads.Learnt,
   leaf-reads.Asked,
@@ -287,18 +257,15 @@ evaluate-evaluate-requires-2 : (t : ℕ) → evaluate-lts.Need-evaluate-requires
   evaluate.Post,
   apply-one-reads.Asked,
   apply-one-reads.Learnt,
-  second-reads.Asked,
-  second-reads.Learnt,
   apply-two-reads.Asked,
   apply-two-reads.Learnt,
 ) (evaluate-at t) evaluate.Post
-evaluate-evaluate-requires-2 t c κs =
-    (omega (arith, laws.left-some _ _ _ _ _ _ (c .before .before .before .before .before .before .before .before .before .before .before .before .before .pre .1)), laws.second-ready _ _ _ _ _ _ (c .before .before .before .before .before .before .before .before .before .before .before .before .before .pre .1) _ _ (c .before .before .before .before .before .before .before .before .before .node-at .ensures) (c .before .before .before .before .before .before .before .before .places .ensures) _ _ (c .before .before .before .before .before .before .before .if1 .left) (c .before .before .if2 .left) (c .before .before .before .before .before .evaluate .ensures) (c .before .second .ensures))
+evaluate-evaluate-requires-2 t c κs = (search (needs, laws.left-falls), search (needs, laws.second-ready))
 
--- src/lib.rt:106:5
+-- src/lib.rt:105:5
 evaluate-apply-two-requires : (t : ℕ) → evaluate-lts.Need-apply-two-requires (
-  node-at-reads.Asked,
-  node-at-reads.Learnt,
+  number-at-reads.Asked,
+  number-at-reads.Learnt,
   places-reads.Asked,
   places-reads.Learnt,
   leaf-reads.Asked,
@@ -307,8 +274,6 @@ evaluate-apply-two-requires : (t : ℕ) → evaluate-lts.Need-apply-two-requires
   evaluate.Post,
   apply-one-reads.Asked,
   apply-one-reads.Learnt,
-  second-reads.Asked,
-  second-reads.Learnt,
   apply-two-reads.Asked,
   apply-two-reads.Learnt,
 ) (evaluate-at t) evaluate.Post
@@ -316,8 +281,8 @@ evaluate-apply-two-requires t c κs = search (needs, laws.two-ready)
 
 -- src/lib.rt:82:1
 evaluate-same-length-3 : (t : ℕ) → evaluate-lts.Need-same-length-3 (
-  node-at-reads.Asked,
-  node-at-reads.Learnt,
+  number-at-reads.Asked,
+  number-at-reads.Learnt,
   places-reads.Asked,
   places-reads.Learnt,
   leaf-reads.Asked,
@@ -326,8 +291,6 @@ evaluate-same-length-3 : (t : ℕ) → evaluate-lts.Need-same-length-3 (
   evaluate.Post,
   apply-one-reads.Asked,
   apply-one-reads.Learnt,
-  second-reads.Asked,
-  second-reads.Learnt,
   apply-two-reads.Asked,
   apply-two-reads.Learnt,
 ) (evaluate-at t) evaluate.Post
@@ -335,8 +298,8 @@ evaluate-same-length-3 t c = search needs
 
 -- src/lib.rt:82:1
 evaluate-returns-3 : (t : ℕ) → evaluate-lts.Need-returns-3 (
-  node-at-reads.Asked,
-  node-at-reads.Learnt,
+  number-at-reads.Asked,
+  number-at-reads.Learnt,
   places-reads.Asked,
   places-reads.Learnt,
   leaf-reads.Asked,
@@ -345,17 +308,15 @@ evaluate-returns-3 : (t : ℕ) → evaluate-lts.Need-returns-3 (
   evaluate.Post,
   apply-one-reads.Asked,
   apply-one-reads.Learnt,
-  second-reads.Asked,
-  second-reads.Learnt,
   apply-two-reads.Asked,
   apply-two-reads.Learnt,
 ) (evaluate-at t) evaluate.Post
-evaluate-returns-3 t c = search (needs, laws.two-evaluated)
+evaluate-returns-3 t c = search (needs, laws.two-ends, laws.two-evaluated)
 
 pub +evaluate-spec : {M : Type 1} → statement M
 +evaluate-spec = close μ-evaluate λ t. evaluate-lts.spec (
-  node-at-reads.Asked,
-  node-at-reads.Learnt,
+  number-at-reads.Asked,
+  number-at-reads.Learnt,
   places-reads.Asked,
   places-reads.Learnt,
   leaf-reads.Asked,
@@ -364,16 +325,15 @@ pub +evaluate-spec : {M : Type 1} → statement M
   evaluate.Post,
   apply-one-reads.Asked,
   apply-one-reads.Learnt,
-  second-reads.Asked,
-  second-reads.Learnt,
   apply-two-reads.Asked,
   apply-two-reads.Learnt,
 )
     (evaluate-at t)
     evaluate.Post
-    (evaluate-node-at-requires t)
+    (evaluate-number-at-requires t)
     (evaluate-places-requires t)
     (evaluate-leaf-requires t)
+    (evaluate-add-result t)
     (evaluate-same-length t)
     (evaluate-returns t)
     (evaluate-add-evaluate t)
@@ -382,7 +342,6 @@ pub +evaluate-spec : {M : Type 1} → statement M
     (evaluate-apply-one-requires t)
     (evaluate-same-length-2 t)
     (evaluate-returns-2 t)
-    (evaluate-second-requires t)
     (evaluate-sub-evaluate-2 t)
     (evaluate-evaluate-requires-2 t)
     (evaluate-apply-two-requires t)

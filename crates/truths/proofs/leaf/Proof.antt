@@ -6,11 +6,11 @@ use Rattle.truths.proofs.leaf.Reads as reads
 use Rattle.truths.proofs.leaf.Lts as lts
 use Rattle.evaluator.proofs.push.Reads as push-reads
 use Rattle.evaluator.proofs.push_variable.Reads as push-variable-reads
-use Rattle.truths.proofs.number.Reads as number-reads
+use Rattle.decks.proofs.wide.Reads as wide-reads
 
 -- src/lib.rt:29:49
-number-requires : tie.Need-number-requires
-number-requires c κs = search needs
+wide-requires : tie.Need-wide-requires
+wide-requires c κs = search needs
 
 -- src/lib.rt:29:9
 push-variable-requires : tie.Need-push-variable-requires
@@ -52,7 +52,7 @@ pub leaf-spec : {M : Type 1} → statement M
 leaf-spec =
     tie.close
     (tie.spec
-    number-requires
+    wide-requires
     push-variable-requires
     same-length
     returns
