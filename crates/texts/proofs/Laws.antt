@@ -2,18 +2,20 @@
 use mathlib.Core.Path.{_≡_, refl, sym, ap, _∙_, subst}
 use mathlib.Core.Bool.{true}
 use mathlib.Core.List.{List, [], _∷_, _++_, append-assoc}
-use Prim.Native.Nat.{ℕ, _+_, _-_, _*_, _<_, _≤_}
+use Prim.Native.Nat.{ℕ, suc, _+_, _-_, _*_, _<_, _≤_}
 use native.Mathlib.Omega.{arith}
+use native.Mathlib.Nat.{zero-add}
 use borrow.Author.Tests.{lt-ltb, le-ltb}
-use lib.ListN.{length, take, replicate, length-append, length-take, length-drop}
+use lib.ListN.{length, take, getD, replicate, length-append, length-take, length-drop}
+use lib.Seq.{take-all}
 use borrow.Rule.Slice.PartMut.{midOf, putMid}
 use Rattle.lists.specs.Lists.{Each, keep, padded, splice, part}
-use Rattle.lists.proofs.Laws.{each-replicate, each-append, each-map, keep-all, take-padded, length-splice, splice-rest, part-rest, length-part}
+use Rattle.lists.proofs.Laws.{each-replicate, each-append, each-map, keep-all, take-padded, getD-padded, length-padded, length-splice, splice-rest, part-rest, length-part}
 use Rattle.sets.specs.Sets.{has, _⊆_}
 use Rattle.sets.proofs.Laws.{has-true}
 use Rattle.logic.specs.Expressions.{Expr, code}
 use Rattle.logic.specs.Expressions as Expressions
-use Rattle.logic.specs.Decks.{Equation, Deck, Allowed, Accepted, base}
+use Rattle.logic.specs.Decks.{Equation, Deck, Allowed, Accepted, base, totalNodes}
 use Rattle.logic.specs.Meaning.{Sized}
 use Rattle.logic.specs.Pieces.{equationsOf}
 use Rattle.logic.proofs.Codes.{below-more, written-below, length-code, code-fits}
@@ -21,8 +23,8 @@ use Rattle.decks.specs.declared.Deck.{Deck as Stored}
 use Rattle.decks.specs.declared.Answer.the-variants.{Fine, NoRoom}
 use Rattle.decks.specs.declared.DeckRead.{DeckRead}
 use Rattle.decks.specs.Answers.{Got}
-use Rattle.decks.specs.Stored.{HoldsEquations, codes, stored, DeckCame}
-use Rattle.decks.proofs.Stored.{storedIn, came-stored}
+use Rattle.decks.specs.Stored.{HoldsEquations, endsOf, codes, stored, deckRead, DeckCame}
+use Rattle.decks.proofs.Stored.{length-ends, ends-at, storedIn, came-stored}
 use Rattle.frames.specs.Hex.{pair, pairs}
 use Rattle.frames.specs.Written.{claimKind, stateKind, claimCountKind, claimFrames, setBytes, setKind, initKind, propertyKind, countKind, nodePairs, frame, stateFrames, equationFrames, deckFrames}
 use Rattle.frames.proofs.HexLaws.{length-pairs, pairs-four}
@@ -213,6 +215,36 @@ module _ (p c : ℕ) (states : List ℕ) (s : Sized base (claimOf p c states)) w
   pub claim-counted : (r : ℕ) → r ≡ 19 * (p + c) + 18 → r ≡ length (claimFrames (claimOf p c states))
   claim-counted r e = e ∙ claim-bytes
 
+-- ---- the bytes of a deck from its counts
+
+no-nodes : (qs : List Equation) → length qs ≡ 0 → totalNodes qs ≡ 0
+unfolding totalNodes
+no-nodes [] e = refl
+no-nodes (q ∷ qs) e = absurd (omega arith)
+
+module _ (read : DeckRead) (ends : List ℕ) (D : Deck) (e : read ≡ deckRead (Got D)) where
+  count-is : read .equations ≡ length (D .equations)
+  count-is = ap (λ (x : DeckRead). x .equations) e
+
+  sized : (k n : ℕ) → n ≡ totalNodes (D .equations) → k ≡ 19 * read .initials + 2 * read .size + 29 + 5 * read .equations + 2 * n → k ≡ length (deckFrames D)
+  sized k n q f = omega (arith, f, q, length-deck-frames D, count-is, ap (λ (x : DeckRead). x .initials) e, ap (λ (x : DeckRead). x .size) e)
+
+  pub size-bare : read .equations ≡ 0 → 19 * read .initials + 2 * read .size + 29 ≡ length (deckFrames D)
+  size-bare z = sized _ 0 (sym (no-nodes (D .equations) (sym count-is ∙ z))) (omega (arith, z))
+
+  pub size-counted : (n : ℕ)
+      → (read .equations ≡ 0 → ⊥)
+      → n ≡ getD ends (read .equations - 1) 0
+      → ends ≡ padded (base .equations) (endsOf 0 (D .equations))
+      → 19 * read .initials + 2 * read .size + 29 + 5 * read .equations + 2 * n ≡ length (deckFrames D)
+  size-counted n z q f =
+      let qs = D .equations in
+      let i = read .equations - 1 in
+      let within : i < length qs = omega (arith, count-is, z) in
+      let last : suc i ≡ length qs = omega (arith, count-is, z) in
+      let all : getD (endsOf 0 qs) i 0 ≡ totalNodes qs = ends-at 0 qs i within ∙ zero-add _ ∙ ap (λ (k : ℕ). totalNodes (take k qs)) last ∙ ap totalNodes (take-all (length qs) qs (omega arith)) in
+      sized _ n (q ∙ ap (λ (l : List ℕ). getD l i 0) f ∙ getD-padded (base .equations) (endsOf 0 qs) i ∙ all) refl
+
 -- ---- decks that were read
 
 nodes-padded : (n : ℕ) (ns : List ℕ) → Nodes ns → Nodes (padded n ns)
@@ -274,12 +306,21 @@ module _ (D : Deck) (a : Accepted base D) where
     came-frames : Frames (D .equations) (D .property) ≡ deckFrames D
     came-frames = stored-frames its (came-stored D read inits lefts ends nodes property h)
 
-    module _ (n : ℕ) where
-      pub came-size : ((qs : List Equation) (x : Expr) → Lends qs x → n ≡ length (Frames qs x)) → n ≡ length (deckFrames D)
-      came-size f = f (D .equations) (D .property) came-lent ∙ ap (λ (l : List ℕ). length l) came-frames
+    -- What the counts say of it.
+    pub came-counts : (read .initials ≤ base .initials) × (read .equations ≤ base .equations) × (read .size ≤ base .propertyNodes) × (length ends ≡ base .equations)
+    came-counts = (
+      omega (arith, a .inits-most, ap (λ (x : DeckRead). x .initials) (h .read-is)),
+      omega (arith, a .equations-most, ap (λ (x : DeckRead). x .equations) (h .read-is)),
+      omega (arith, a .property-nodes, ap (λ (x : DeckRead). x .size) (h .read-is)),
+      ap (λ (l : List ℕ). length l) (h .rows-hold .equations-are .ends-are) ∙ length-padded (base .equations) (endsOf 0 (D .equations)) (omega (arith, length-ends 0 (D .equations), a .equations-most)),
+    )
 
-      pub came-room : (room : ℕ) → ((qs : List Equation) (x : Expr) → Lends qs x → n ≡ length (Frames qs x)) → n ≤ room → length (Frames (D .equations) (D .property)) ≤ room
-      came-room room f h = omega (arith, f (D .equations) (D .property) came-lent)
+    module _ (n : ℕ) where
+      pub came-size : ((E : Deck) → read ≡ deckRead (Got E) → ends ≡ padded (base .equations) (endsOf 0 (E .equations)) → n ≡ length (deckFrames E)) → n ≡ length (deckFrames D)
+      came-size f = f D (h .read-is) (h .rows-hold .equations-are .ends-are)
+
+      pub came-room : (room : ℕ) → n ≡ length (deckFrames D) → n ≤ room → length (Frames (D .equations) (D .property)) ≤ room
+      came-room room e l = omega (arith, e, ap (λ (l : List ℕ). length l) came-frames)
 
       module _ (out₀ out : List ℕ) (f : (qs : List Equation) (x : Expr) → Lends qs x → (n ≡ length (Frames qs x)) × (out ≡ splice 0 (Frames qs x) out₀)) where
         pub came-bytes : n ≡ length (deckFrames D)

@@ -3,14 +3,14 @@ ghost use mathlib.Core.Path.{_≡_};
 ghost use mathlib.Core.List.{List, _++_};
 ghost use Prim.Native.Nat.{_+_, _-_, _*_, _≤_};
 ghost use lib.ListN.{length, take};
-ghost use Rattle.lists.specs.Lists.{splice, part};
+ghost use Rattle.lists.specs.Lists.{splice, part, padded};
 ghost use Rattle.logic.specs.Expressions.{Expr};
 ghost use Rattle.logic.specs.Decks.{Equation, Deck, Accepted, base};
 ghost use Rattle.logic.specs.Meaning.{Sized};
 ghost use Rattle.decks.specs.Answers.{Got};
-ghost use Rattle.decks.specs.Stored.{DeckCame};
+ghost use Rattle.decks.specs.Stored.{endsOf, deckRead, DeckCame};
 ghost use Rattle.frames.specs.Hex.{pairs};
-ghost use Rattle.frames.specs.Written.{setBytes, setKind, initKind, propertyKind, countKind, nodePairs, frame, stateFrames, claimFrames};
+ghost use Rattle.frames.specs.Written.{setBytes, setKind, initKind, propertyKind, countKind, nodePairs, frame, stateFrames, deckFrames, claimFrames};
 ghost use Rattle.writing.specs.Parts.{Nodes};
 ghost use Rattle.texts.specs.Texts.{Lent, framesOf, deckWritten, claimWritten, claimOf};
 
@@ -87,6 +87,20 @@ pub fn frames_size<'a>(
     19 * initials + 19 + n + (2 * (to - from) + 10)
 }
 
+// The bytes of a deck's frames, from its counts: where the nodes of the last equation end, there end those of all.
+fn deck_size(read: decks::DeckRead, ends: &[u16]) -> usize
+    requires { ⌜ (read .initials ≤ base .initials) × (read .equations ≤ base .equations) × (read .size ≤ base .propertyNodes) × (length (now ends) ≡ base .equations) ⌝ }
+    ensures { λ r. ⌜ ((D : Deck) → read ≡ deckRead (Got D) → now (ends .entry) ≡ padded (base .equations) (endsOf 0 (D .equations)) → r ≡ length (deckFrames D)) ⌝ }
+{
+    let count = read.equations;
+    let others = 19 * read.initials + 2 * read.size + 29;
+    if count == 0 {
+        return others;
+    }
+    let nodes = decks::place_at(ends, count - 1);
+    others + 5 * count + 2 * nodes
+}
+
 // A deck into a buffer; 17 with the bytes needed, and no byte changed, where it has no room.
 pub fn write_deck<'a>(
     read: decks::DeckRead,
@@ -100,18 +114,7 @@ pub fn write_deck<'a>(
     requires { ⌜ ((D : Deck) × Accepted base D × DeckCame (Got D) read (now inits) (now lefts) (now ends) (now nodes) (now property)) ⌝ }
     ensures { λ r. ⌜ ((D : Deck) → Accepted base D → DeckCame (Got D) read (now (inits .entry)) (now (lefts .entry)) (now (ends .entry)) (now (nodes .entry)) (now (property .entry)) → (r ≡ deckWritten D (now (out .entry)) .report) × (now (out .exit) ≡ deckWritten D (now (out .entry)) .buffer)) ⌝ }
 {
-    let needed = frames_size(
-        read.vars,
-        inits,
-        read.initials,
-        lefts,
-        ends,
-        nodes,
-        read.equations,
-        property,
-        0,
-        read.size,
-    );
+    let needed = deck_size(read, ends);
     if out.len() < needed {
         return Written {
             answer: decks::Answer::NoRoom(needed as u64),
