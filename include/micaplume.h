@@ -14,7 +14,7 @@
  *   - out and counts overlap neither each other nor a text. Two texts may be one;
  *   - during the call nobody else writes a text, or reads or writes out or counts.
  *
- * A call uses no heap, no files and nothing that outlives it, so calls may run side by side. Have 128 KiB of stack free; the most measured was 48.
+ * A call uses no heap, no files and nothing that outlives it, so calls may run side by side. Have 128 KiB of stack free; the most measured was 34.
  *
  * Every call returns a word: number + 256 * text + 65,536 * place.
  *   number   0 for success, 1 to 22 for the refusal of that number in the paper's table;
