@@ -3,8 +3,8 @@
    compare and how much stack each operation used. The rounds of an input are
    spread over the whole run, so that what else the machine does for a while
    falls on a few rounds of every input and not on all rounds of one; and each
-   pass has the stack at another place, since where it lies beside the texts
-   changes the times of short calls by a tenth and more. */
+   pass has the stack at another place, so that no row rests on one place of
+   it beside the texts. */
 #include "micaplume.h"
 #include "../tests/reference/reference.h"
 #include "inputs.h"
