@@ -1,6 +1,6 @@
 -- Laws of pairs, line ends and numbers.
 use mathlib.Core.Path.{_≡_, refl, sym, ap, _∙_}
-use mathlib.Core.Bool.{Bool, true, false, not}
+use mathlib.Core.Bool.{Bool, true, false, not, _&&_}
 use mathlib.Core.List.{List, [], _∷_}
 use mathlib.Core.Option.{Option, none, some}
 use Prim.Native.Nat.{ℕ, suc, _+_, _-_, _*_, _^_, _<_, _≤_}
@@ -8,16 +8,16 @@ use native.Mathlib.Omega.{arith}
 use native.Mathlib.Numerals.{add-one}
 use native.Mathlib.Nat.{pow-suc, pow-le-pow-right, sub-zero}
 use native.Mathlib.Decide.{ℕ-discrete}
-use lib.Dec.{ltb, eqb, lit<}
+use lib.Dec.{ltb, leb, eqb, lit<}
 use lib.ListN.{length, drop, getD, length-drop, drop-of-length-le}
 use lib.Seq.{drop-cons, drop-drop}
-use borrow.Author.Tests.{lt-ltb, le-ltb, le-leb, lt-leb, eq-eqb, ne-eqb, ltb-true}
+use borrow.Author.Tests.{lt-ltb, le-ltb, le-leb, lt-leb, eq-eqb, ne-eqb, eqb-true, ltb-true, ltb-false, not-false}
 use Rattle.frames.specs.Hex.{digitOf, byteOf, numberFrom, number}
 use Rattle.frames.proofs.HexLaws.{pairs-number, length-pairs}
 use Rattle.decks.specs.declared.Answer.the-variants.{BadFrame}
 use Rattle.decks.specs.Answers.{Got, Refused, refuse}
 use Rattle.frames.specs.Read.{kindOf, wholeNumber, countLine}
-use Rattle.lines.specs.Steps.{numberRead, countIs}
+use Rattle.lines.specs.Steps.{numberRead, bothZero, countIs}
 use Rattle.lines.specs.declared.Number.{Number}
 use Rattle.lines.specs.declared.Number.the-variants.{Good, Bad}
 
@@ -117,6 +117,76 @@ module _ (l : List ℕ) (at r : ℕ) where
   pub pair-inside : r ≡ kindOf (drop at l) → r < 256 → at + 2 ≤ length l
   pair-inside e h = omega (arith, kind-long (drop at l) (rw (← e) h), length-drop at l)
 
+-- ---- zeros
+
+digit-zero : (c : ℕ) → digitOf c ≡ 0 → c ≡ 48
+unfolding digitOf
+digit-zero c e = go (ltb c 48) refl (leb c 57) refl (ltb c 65) refl (leb c 70) refl
+  where
+    go : (p : Bool) → ltb c 48 ≡ p → (q : Bool) → leb c 57 ≡ q → (r : Bool) → ltb c 65 ≡ r → (s : Bool) → leb c 70 ≡ s → c ≡ 48
+    go true p q₁ q r₁ r s₁ s = let z : digitOf c ≡ 16 = simp (p, digitOf) in absurd (omega (arith, z, e))
+    go false p true q r₁ r s₁ s = let z : digitOf c ≡ c - 48 = simp (p, q, digitOf) in omega (arith, z, e, ltb-false c 48 p)
+    go false p false q true r s₁ s = let z : digitOf c ≡ 16 = simp (p, q, r, digitOf) in absurd (omega (arith, z, e))
+    go false p false q false r true s = let z : digitOf c ≡ c - 65 + 10 = simp (p, q, r, s, digitOf) in absurd (omega (arith, z, e))
+    go false p false q false r false s = let z : digitOf c ≡ 16 = simp (p, q, r, s, digitOf) in absurd (omega (arith, z, e))
+
+zero-pair : (h l : ℕ) → h ≡ 48 → l ≡ 48 → byteOf h l ≡ 0
+unfolding byteOf digitOf
+zero-pair h l e f = ap (λ (x : ℕ). byteOf x l) e ∙ ap (byteOf 48) f
+
+byte-zero : (h l : ℕ) → byteOf h l ≡ 0 → (h ≡ 48) × (l ≡ 48)
+unfolding byteOf
+byte-zero h l e = go (ltb (digitOf h) 16) refl (ltb (digitOf l) 16) refl
+  where
+    go : (a : Bool) → ltb (digitOf h) 16 ≡ a → (b : Bool) → ltb (digitOf l) 16 ≡ b → (h ≡ 48) × (l ≡ 48)
+    go true p true q = let z : byteOf h l ≡ 16 * digitOf h + digitOf l = simp (p, q, byteOf) in (digit-zero h (omega (arith, z, e)), digit-zero l (omega (arith, z, e)))
+    go true p false q = let z : byteOf h l ≡ 256 = simp (p, q, byteOf) in absurd (omega (arith, z, e))
+    go false p b q = let z : byteOf h l ≡ 256 = simp (p, byteOf) in absurd (omega (arith, z, e))
+
+module _ (l : List ℕ) (at : ℕ) where
+  zeros-all : at + 4 ≤ length l → bothZero (drop at l) ≡ (eqb (byteOf (getD l at 0) (getD l (at + 1) 0)) 0 && eqb (byteOf (getD l (at + 2) 0) (getD l (at + 2 + 1) 0)) 0)
+  unfolding bothZero
+  zeros-all h =
+      let other : kindOf (drop 2 (drop at l)) ≡ byteOf (getD l (at + 2) 0) (getD l (at + 2 + 1) 0) = ap kindOf (drop-drop 2 at l) ∙ the-pair l (at + 2) 0 (omega arith) in
+      ap (λ (x : ℕ). eqb x 0 && eqb (kindOf (drop 2 (drop at l))) 0) (the-pair l at 0 (omega arith)) ∙ ap (λ (x : ℕ). eqb (byteOf (getD l at 0) (getD l (at + 1) 0)) 0 && eqb x 0) other
+
+  -- Two pairs are zero where their characters, in one number, are four `0`.
+  pub zeros-are : (a b c d : ℕ) → at + 4 ≤ length l → (a ≡ getD l at 0) × (a < 256) → (b ≡ getD l (at + 1) 0) × (b < 256) → (c ≡ getD l (at + 2) 0) × (c < 256) → (d ≡ getD l (at + 3) 0) × (d < 256) → eqb (a + 256 * b + 65536 * (c + 256 * d)) 808464432 ≡ bothZero (drop at l)
+  zeros-are a b c d h ea eb ec ed = sym (whole ∙ go (ℕ-discrete (a + 256 * b + 65536 * (c + 256 * d)) 808464432))
+    where
+      three : at + 3 ≡ at + 2 + 1
+      three = omega arith
+
+      whole : bothZero (drop at l) ≡ (eqb (byteOf a b) 0 && eqb (byteOf c d) 0)
+      whole =
+          zeros-all h
+          ∙ ap (λ (x : ℕ). eqb (byteOf x (getD l (at + 1) 0)) 0 && eqb (byteOf (getD l (at + 2) 0) (getD l (at + 2 + 1) 0)) 0) (sym (ea .0))
+          ∙ ap (λ (x : ℕ). eqb (byteOf a x) 0 && eqb (byteOf (getD l (at + 2) 0) (getD l (at + 2 + 1) 0)) 0) (sym (eb .0))
+          ∙ ap (λ (x : ℕ). eqb (byteOf a b) 0 && eqb (byteOf x (getD l (at + 2 + 1) 0)) 0) (sym (ec .0))
+          ∙ ap (λ (x : ℕ). eqb (byteOf a b) 0 && eqb (byteOf c x) 0) (sym (ed .0 ∙ ap (λ (k : ℕ). getD l k 0) three))
+
+      go : Dec (a + 256 * b + 65536 * (c + 256 * d) ≡ 808464432) → (eqb (byteOf a b) 0 && eqb (byteOf c d) 0) ≡ eqb (a + 256 * b + 65536 * (c + 256 * d)) 808464432
+      go (yes s) =
+          ap (λ (z : Bool). z && eqb (byteOf c d) 0) (eq-eqb (byteOf a b) 0 (zero-pair a b (omega (arith, ea .1, eb .1, ec .1, ed .1, s)) (omega (arith, ea .1, eb .1, ec .1, ed .1, s))))
+          ∙ eq-eqb (byteOf c d) 0 (zero-pair c d (omega (arith, ea .1, eb .1, ec .1, ed .1, s)) (omega (arith, ea .1, eb .1, ec .1, ed .1, s)))
+          ∙ sym (eq-eqb (a + 256 * b + 65536 * (c + 256 * d)) 808464432 s)
+      go (no n) = other (ℕ-discrete (byteOf a b) 0) (ℕ-discrete (byteOf c d) 0) ∙ sym (ne-eqb (a + 256 * b + 65536 * (c + 256 * d)) 808464432 n)
+        where
+          other : Dec (byteOf a b ≡ 0) → Dec (byteOf c d ≡ 0) → (eqb (byteOf a b) 0 && eqb (byteOf c d) 0) ≡ false
+          other (yes e) (yes f) = let p = byte-zero a b e in let q = byte-zero c d f in absurd (n (omega (arith, p .0, p .1, q .0, q .1)))
+          other (yes e) (no f) = ap (λ (z : Bool). z && eqb (byteOf c d) 0) (eq-eqb (byteOf a b) 0 e) ∙ ne-eqb (byteOf c d) 0 f
+          other (no e) f = ap (λ (z : Bool). z && eqb (byteOf c d) 0) (ne-eqb (byteOf a b) 0 e)
+
+  -- What is so of two pairs that are both zero.
+  both-zero : bothZero (drop at l) ≡ true → (kindOf (drop at l) ≡ 0) × (kindOf (drop (at + 2) l) ≡ 0)
+  unfolding bothZero
+  both-zero e = go (eqb (kindOf (drop at l)) 0) refl (eqb (kindOf (drop 2 (drop at l))) 0) refl e
+    where
+      go : (p : Bool) → eqb (kindOf (drop at l)) 0 ≡ p → (q : Bool) → eqb (kindOf (drop 2 (drop at l))) 0 ≡ q → (p && q) ≡ true → (kindOf (drop at l) ≡ 0) × (kindOf (drop (at + 2) l) ≡ 0)
+      go true p true q z = (eqb-true (kindOf (drop at l)) 0 p, ap kindOf (sym (drop-drop 2 at l)) ∙ eqb-true (kindOf (drop 2 (drop at l))) 0 q)
+      go true p false q z = let w : _≡_ {A = ℕ} 0 1 = cc in absurd (omega arith)
+      go false p b q z = let w : _≡_ {A = ℕ} 0 1 = cc in absurd (omega arith)
+
 -- ---- numbers
 
 number-short : (k v : ℕ) (cs : List ℕ) → 256 ≤ kindOf cs → numberFrom (suc k) v cs ≡ none
@@ -168,6 +238,23 @@ module _ (l : List ℕ) (at k i value place : ℕ) where
 
   pub number-doubled : i < k → k ≤ 8 → value < 256 ^ i → 256 * value < 2 ^ 64
   number-doubled h m v = omega (arith, number-fits 0 h m v (lit< tt))
+
+-- Two pairs of zeros at the front of a number are passed over.
+pub zeros-passed : (l : List ℕ) (at k i : ℕ) (b : Bool) → i + 1 < k → NumberSofar l at k i 0 (at + 2 * i) → b ≡ bothZero (drop (at + 2 * i) l) → not b ≡ false → NumberSofar l at k (i + 2) 0 (at + 2 * (i + 2))
+zeros-passed l at k i b h e p q =
+    let z = both-zero l (at + 2 * i) (sym p ∙ not-false b q) in
+    let first : number k (drop at l) ≡ numberFrom (k - (i + 1)) 0 (drop (at + 2 * i + 2) l) = number-next l at k i 0 (at + 2 * i) 0 (omega arith) e (sym (z .0)) (lit< tt) in
+    let second : number k (drop at l) ≡ numberFrom (k - (i + 1 + 1)) 0 (drop (at + 2 * i + 2 + 2) l) = number-next l at k (i + 1) 0 (at + 2 * i + 2) 0 (omega arith) first (sym (z .1)) (lit< tt) in
+    let two : i + 1 + 1 ≡ i + 2 = omega arith in
+    let on : at + 2 * i + 2 + 2 ≡ at + 2 * (i + 2) = omega arith in
+    second ∙ ap (λ (n : ℕ). numberFrom (k - n) 0 (drop (at + 2 * i + 2 + 2) l)) two ∙ ap (λ (n : ℕ). numberFrom (k - (i + 2)) 0 (drop n l)) on
+
+pub zeros-begun : (l : List ℕ) (at k : ℕ) → NumberSofar l at k 0 0 (at + 2 * 0)
+zeros-begun l at k = let e : at ≡ at + 2 * 0 = omega arith in number-begun l at k 0 0 at ∙ ap (λ (n : ℕ). numberFrom (k - 0) 0 (drop n l)) e
+
+-- Behind zeros alone there is room for every pair.
+pub zero-room : (i : ℕ) → 0 < 256 ^ i
+zero-room i = let le : 0 ≤ i = omega arith in let p : 256 ^ 0 ≤ 256 ^ i = pow-le-pow-right (lit< tt) le in omega (arith, p)
 
 -- What the number read says of the number.
 pub read-good : (o : Option ℕ) (r : Number) (x : ℕ) → r ≡ numberRead o → r ≡ Good x → o ≡ some x

@@ -1,6 +1,6 @@
 -- What the readers of one line answer.
 use mathlib.Core.Path.{_≡_}
-use mathlib.Core.Bool.{Bool, true, false}
+use mathlib.Core.Bool.{Bool, true, false, _&&_}
 use mathlib.Core.List.{List, [], _∷_}
 use mathlib.Core.Option.{Option, none, some}
 use Prim.Native.Nat.{ℕ, zero, suc, _+_, _-_, _≤_}
@@ -20,6 +20,10 @@ use Rattle.lines.specs.declared.Step.{Step}
 abbrev pub numberRead : Option ℕ → Number
 numberRead none = Bad
 numberRead (some n) = Good n
+
+-- Whether the first two pairs are both `00`.
+unfoldable pub bothZero : List ℕ → Bool
+bothZero cs = eqb (kindOf cs) 0 && eqb (kindOf (drop 2 cs)) 0
 
 -- Whether the two bytes of a 05 or 15 are the number of frames before line n.
 unfoldable pub countIs : ℕ → List ℕ → Bool

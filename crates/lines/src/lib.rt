@@ -1,11 +1,11 @@
 // Hexadecimal pairs, and the reader of one expression straight from its pairs.
 ghost use mathlib.Core.Path.{_≡_};
 ghost use mathlib.Core.Bool.{_||_};
-ghost use Prim.Native.Nat.{_+_, _*_, _<_, _≤_};
+ghost use Prim.Native.Nat.{_+_, _-_, _*_, _<_, _≤_};
 ghost use lib.ListN.{length, drop, set};
-ghost use Rattle.frames.specs.Hex.{digitOf, number};
+ghost use Rattle.frames.specs.Hex.{digitOf, numberFrom, number};
 ghost use Rattle.frames.specs.Read.{signOf, kindOf, readExpr};
-ghost use Rattle.lines.specs.Steps.{numberRead, countIs, placesOf, stepOf, leafVars, nodeOf, Kept};
+ghost use Rattle.lines.specs.Steps.{numberRead, bothZero, countIs, placesOf, stepOf, leafVars, nodeOf, Kept};
 
 // What stands where no pair is.
 pub const NO_PAIR: u64 = 256;
@@ -22,6 +22,9 @@ const NEXT: u64 = 69;
 const UNTIL: u64 = 72;
 
 const NO_CODE: u64 = 74;
+
+// Four characters `0`, each worth 256 times the one before it.
+const ZEROS: u64 = 0x3030_3030;
 
 // How the reading of an expression stopped.
 pub const WHOLE: u8 = 0;
@@ -46,7 +49,7 @@ pub struct Step {
 }
 
 fn wide(x: u8) -> u64
-    ensures { λ r. ⌜ r ≡ x ⌝ }
+    ensures { λ r. ⌜ (r ≡ x) × (r < 256) ⌝ }
 {
     x as u64
 }
@@ -99,6 +102,31 @@ pub fn pair_at(line: &[u8], at: usize) -> u64
     pair(line, at)
 }
 
+// Whether the two pairs that begin at a place of the line are both zero. All four characters are looked at in one comparison.
+fn zeros(line: &[u8], at: usize) -> bool
+    requires { ⌜ at + 4 ≤ length (now line) ⌝ }
+    ensures { λ r. ⌜ r ≡ bothZero (drop at (now (line .entry))) ⌝ }
+{
+    let one = wide(line[at]) + 256 * wide(line[at + 1]);
+    let other = wide(line[at + 2]) + 256 * wide(line[at + 3]);
+    one + 65536 * other == ZEROS
+}
+
+// How many of the k pairs from a place of the line on are passed over, by twos, as zeros at the front of their number.
+fn zeros_before(line: &[u8], at: usize, k: usize) -> usize
+    requires { ⌜ (at ≤ 8) × (k ≤ 8) × (length (now line) ≡ at + 2 * k) ⌝ }
+    ensures { λ r. ⌜ (r ≤ k) × (number k (drop at (now (line .entry))) ≡ numberFrom (k - r) 0 (drop (at + 2 * r) (now (line .entry)))) ⌝ }
+{
+    let mut i = 0;
+    while i + 1 < k {
+        if !zeros(line, at + 2 * i) {
+            return i;
+        }
+        i += 2;
+    }
+    i
+}
+
 // The number of exactly k pairs from a place of the line to its end.
 pub fn number_at(line: &[u8], at: usize, k: usize) -> Number
     requires { ⌜ (at ≤ 8) × (1 ≤ k) × (k ≤ 8) ⌝ }
@@ -108,8 +136,8 @@ pub fn number_at(line: &[u8], at: usize, k: usize) -> Number
         return Number::Bad;
     }
     let mut value = 0u64;
-    let mut i = 0;
-    let mut place = at;
+    let mut i = zeros_before(line, at, k);
+    let mut place = at + 2 * i;
     while i < k {
         let b = pair(line, place);
         if b >= NO_PAIR {
