@@ -1,16 +1,16 @@
 -- Laws of words that are worked on one after the other.
 use mathlib.Core.Path.{_≡_, refl, sym, ap, _∙_}
 use mathlib.Core.Logic.{by-cases}
-use mathlib.Core.Bool.{Bool, true, false}
 use mathlib.Core.List.{List}
-use Prim.Native.Nat.{ℕ, suc, _+_, _-_, _^_, _<_, _≤_, min, max}
+use Prim.Native.Nat.{ℕ, suc, _+_, _-_, _%_, _^_, _<_, _≤_, min, max}
 use native.Mathlib.Omega.{arith}
 use native.Mathlib.Decide.{ℕ-discrete}
 use borrow.Author.Tests.{lt-ltb, le-ltb}
+use lib.Bits.{bitAnd, bitOr, and-step, or-step}
 use lib.ListN.{length, getD, set, length-set, List·getD-eq-default}
 use lib.Seq.{getD-set-same, getD-set-other}
-use Rattle.sets.specs.Sets.{bit, has}
-use Rattle.sets.proofs.Laws.{true-has, false-has, not-in}
+use Rattle.sets.specs.Sets.{bit}
+use Rattle.sets.proofs.Laws.{bit-lt}
 use Rattle.evaluator.specs.Pending.{top, second, pushed, topped, joined, Done, Swept, Below, sweep, seconds, tops, following, variableWord, nextWord, settled, sweptWord}
 
 module _ (f : ℕ → ℕ → ℕ) (old : List ℕ) where
@@ -46,13 +46,18 @@ module _ (f : ℕ → ℕ → ℕ) (old : List ℕ) where
   pub done-below : (new : List ℕ) (i w k : ℕ) → Done f i old new → Below k old → i < length new → w ≡ getD new i 0 → w < 2 ^ k
   done-below new i w k d b l e = let h = b i (omega (arith, d .same)) in rw (e ∙ d .behind i (omega arith)) h
 
+-- ---- the lowest digit of two words joined
+
+pub both-lowest : (v w : ℕ) → bitAnd v w % 2 ≡ min (v % 2) (w % 2)
+both-lowest v w = omega (arith, and-step v w)
+
+pub either-lowest : (v w : ℕ) → bitOr v w % 2 ≡ max (v % 2) (w % 2)
+either-lowest v w = omega (arith, or-step v w)
+
 -- ---- a variable's value
 
-pub member-one : (states : List ℕ) (i s v : ℕ) (b : Bool) → s ≡ getD states i 0 → b ≡ has s v → b ≡ true → 1 ≡ bit (getD states i 0) v
-member-one states i s v b q e t = rw (← q) (sym (true-has s v (sym e ∙ t)))
-
-pub member-zero : (states : List ℕ) (i s v : ℕ) (b : Bool) → s ≡ getD states i 0 → b ≡ has s v → b ≡ false → 0 ≡ bit (getD states i 0) v
-member-zero states i s v b q e f = rw (← q) (sym (not-in s v (false-has s v (sym e ∙ f))))
+pub value-is : (state s v r : ℕ) → s ≡ state → r ≡ bit s v → (r ≡ bit state v) × (r < 2)
+value-is state s v r q e = (e ∙ ap (λ (x : ℕ). bit x v) q, rw e (bit-lt s v))
 
 -- One word more: the value x of the variable in state i goes onto it.
 pub variable-next : (states old new after : List ℕ) (v i x w r : ℕ)

@@ -1,5 +1,5 @@
 // The values of an expression at all states of a claim side by side: one word of pending values for each state.
-// Each function here is one operator, in one or two passes over the words.
+// Each function here is one operator, in one or two passes over the words. What is done to a word has no branch, so that the passes run on vectors.
 ghost use mathlib.Core.Path.{_≡_};
 ghost use Prim.Native.Nat.{ℕ, _+_, _*_, _-_, _/_, _%_, _^_, _<_, _≤_, min, max};
 ghost use lib.ListN.{length, getD, set};
@@ -47,11 +47,7 @@ pub fn value_at(states: &[u64], i: usize, v: usize) -> u64
     requires { ⌜ i < length (now states) ⌝ }
     ensures { λ r. ⌜ (r ≡ bit (getD (now (states .entry)) i 0) v) × (r < 2) ⌝ }
 {
-    let s = decks::state_at(states, i);
-    if sets::member(s, v) {
-        return 1;
-    }
-    0
+    sets::digit(decks::state_at(states, i), v)
 }
 
 // The value of the variable at every state.
@@ -74,10 +70,7 @@ pub fn push_variable(words: &mut [u64], states: &[u64], v: usize)
 fn other_top(w: u64) -> u64
     ensures { λ r. ⌜ r ≡ topped w (1 - top w) ⌝ }
 {
-    if w % 2 == 0 {
-        return w + 1;
-    }
-    w - 1
+    2 * (w / 2) + (1 - w % 2)
 }
 
 // `~` at every state.
@@ -95,10 +88,7 @@ pub fn flip(words: &mut [u64])
 fn lesser_top(w: u64) -> u64
     ensures { λ r. ⌜ r ≡ joined w (min (second w) (top w)) ⌝ }
 {
-    if w / 2 % 2 == 0 {
-        return 2 * (w / 4);
-    }
-    2 * (w / 4) + w % 2
+    2 * (w / 4) + (w / 2 & w) % 2
 }
 
 // `&` at every state.
@@ -116,10 +106,7 @@ pub fn both(words: &mut [u64])
 fn larger_top(w: u64) -> u64
     ensures { λ r. ⌜ r ≡ joined w (max (second w) (top w)) ⌝ }
 {
-    if w / 2 % 2 == 0 {
-        return 2 * (w / 4) + w % 2;
-    }
-    2 * (w / 4) + 1
+    2 * (w / 4) + (w / 2 | w) % 2
 }
 
 // `+` at every state.

@@ -269,9 +269,9 @@ without-lt k s t h = omega arith
 pub subset-lt : (k s t : ℕ) → s ⊆ t → t < 2 ^ k → s < 2 ^ k
 subset-lt k s t f h = omega (arith, subset-le s t f)
 
--- A variable from the width on: not a member, and nothing of its own set is left below the width.
-pub has-high : (k s v : ℕ) → s < 2 ^ k → k ≤ v → false ≡ has s v
-has-high k s v h l = sym (has-false s v (λ m. omega (arith, member-lt k s v h m)))
+-- A variable from the width on: its digit is 0, and nothing of its own set is left below the width.
+pub digit-high : (k s v : ℕ) → s < 2 ^ k → k ≤ v → 0 ≡ bit s v
+digit-high k s v h l = sym (not-in s v (λ m. omega (arith, member-lt k s v h m)))
 
 pub only-mod : (k v : ℕ) → v < k → only v % 2 ^ k ≡ only v
 only-mod k v l = mod-eq-of-lt (pow-lt l)

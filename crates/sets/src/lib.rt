@@ -1,19 +1,26 @@
 // Sets of variables as u64 words: digit v of the word is 1 where Vv is in the set.
 ghost use mathlib.Core.Path.{_≡_};
 ghost use Prim.Native.Nat.{_%_, _^_};
-ghost use Rattle.sets.specs.Sets.{has, only, union, meet, without, inside, size, lowestOf, width};
+ghost use Rattle.sets.specs.Sets.{bit, has, only, union, meet, without, inside, size, lowestOf, width};
 
 // The variables that a word has room for.
 const WIDTH: usize = 64;
+
+// The variable's digit: 1 where it is in the set, 0 where it is not.
+pub fn digit(s: u64, v: usize) -> u64
+    ensures { λ r. ⌜ r ≡ bit s v ⌝ }
+{
+    if v >= WIDTH {
+        return 0;
+    }
+    (s >> v) % 2
+}
 
 // Whether the variable is in the set.
 pub fn member(s: u64, v: usize) -> bool
     ensures { λ r. ⌜ r ≡ has s v ⌝ }
 {
-    if v >= WIDTH {
-        return false;
-    }
-    (s >> v) % 2 == 1
+    digit(s, v) == 1
 }
 
 // The set of the variable alone; empty where a word has no room for it.
