@@ -14,7 +14,7 @@ use Rattle.terms.specs.Nodes.{variable?}
 use Rattle.decks.specs.declared.Answer.{Answer}
 use Rattle.decks.specs.declared.Answer.the-variants.{Fine}
 use Rattle.decks.specs.Answers.{Outcome, Got, Refused}
-use Rattle.decks.specs.Stored.{HoldsEquations}
+use Rattle.decks.specs.Lent.{HoldsEquations}
 use Rattle.cards.specs.Typed.{Typed, firstVars}
 use Rattle.cards.specs.Read.{Due, DueVars, DueInit, DueAny, DueEquation, DueEnd, DueNone, Sofar, withEquation}
 use Rattle.grammar.specs.declared.Word.{Word}

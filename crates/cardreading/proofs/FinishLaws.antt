@@ -17,7 +17,8 @@ use Rattle.decks.specs.declared.Answer.the-variants.{Fine, NoEquation}
 use Rattle.decks.specs.declared.DeckRead.{DeckRead}
 use Rattle.decks.specs.Answers.{Outcome, Refused}
 use Rattle.decks.specs.Readings.{leftSet, complete}
-use Rattle.decks.specs.Stored.{leftsOf, HoldsEquations, deckRead, DeckCame}
+use Rattle.decks.specs.Stored.{leftsOf}
+use Rattle.decks.specs.Lent.{HoldsEquations, deckRead, DeckCame}
 use Rattle.decks.proofs.Complete.{lacking, complete-none, complete-some}
 use Rattle.decks.proofs.Stored.{refused-came}
 use Rattle.cards.specs.Typed.{firstVars, risingFrom, deckOf}

@@ -14,7 +14,7 @@ use Rattle.decks.specs.declared.Answer.the-variants.{Fine, TooLong, NotDue}
 use Rattle.decks.specs.declared.DeckRead.{DeckRead}
 use Rattle.decks.specs.Answers.{Outcome, Got, Refused, afterwards}
 use Rattle.decks.specs.Readings.{walk, complete}
-use Rattle.decks.specs.Stored.{HoldsEquations, Blank, deckRead, DeckCame}
+use Rattle.decks.specs.Lent.{HoldsEquations, Blank, deckRead, DeckCame}
 use Rattle.decks.proofs.Answer.{the-type as answers}
 use Rattle.decks.proofs.Stored.{refused-came}
 use Rattle.cards.specs.Card.{cardsOf, inForm}

@@ -5,7 +5,7 @@ use Prim.Native.Nat.{ℕ}
 use lib.ListN.{length, replicate}
 use Rattle.lists.specs.Lists.{padded, firsts}
 use Rattle.logic.specs.Decks.{base}
-use Rattle.decks.specs.Stored.{HoldsEquations}
+use Rattle.decks.specs.Lent.{HoldsEquations}
 use Rattle.cards.specs.Typed.{deckOf}
 use Rattle.cards.specs.Read.{Sofar, DueNone}
 use Rattle.cards.proofs.StatementLaws.{Stated}

@@ -7,7 +7,7 @@ ghost use Rattle.logic.specs.Decks.{base};
 ghost use Rattle.decks.specs.declared.Answer.the-variants.{Fine};
 ghost use Rattle.decks.specs.Answers.{afterwards};
 ghost use Rattle.decks.specs.Readings.{walk, complete};
-ghost use Rattle.decks.specs.Stored.{Blank, DeckCame};
+ghost use Rattle.decks.specs.Lent.{Blank, DeckCame};
 ghost use Rattle.cards.specs.Card.{cardsOf};
 ghost use Rattle.cards.specs.Statement.{statementsOf};
 ghost use Rattle.cards.specs.Typed.{firstVars, deckOf};

@@ -17,7 +17,7 @@ use Rattle.decks.specs.declared.Answer.{Answer}
 use Rattle.decks.specs.declared.Answer.the-variants.{Fine, TooLong, BadFrame, Outside}
 use Rattle.decks.specs.declared.ClaimRead.{ClaimRead}
 use Rattle.decks.specs.Answers.{Outcome, Got, Refused, refuse, afterwards}
-use Rattle.decks.specs.Stored.{claimRead, ClaimCame}
+use Rattle.decks.specs.Lent.{claimRead, ClaimCame}
 use Rattle.frames.specs.Hex.{number}
 use Rattle.frames.specs.Read.{kindOf, wholeNumber, countLine, ClaimSofar, ClaimDue, StatesDue, ClaimWhole, sizesLine, stateLine, claimLine, claimEnd, readClaim}
 use Rattle.decks.specs.Readings.{walk}

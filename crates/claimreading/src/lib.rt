@@ -5,7 +5,7 @@ ghost use lib.ListN.{length, replicate};
 ghost use Rattle.logic.specs.Decks.{base};
 ghost use Rattle.decks.specs.declared.Answer.the-variants.{BadFrame};
 ghost use Rattle.decks.specs.Answers.{Refused};
-ghost use Rattle.decks.specs.Stored.{claimRead, ClaimCame};
+ghost use Rattle.decks.specs.Lent.{claimRead, ClaimCame};
 ghost use Rattle.frames.specs.Read.{ClaimSofar, ClaimDue, claimLine, readClaim};
 ghost use Rattle.claimreading.specs.Held.{heldOf, lineOf, HoldsStates, RoomFor, Came};
 

@@ -22,7 +22,7 @@ use Rattle.terms.proofs.Trees.{stands-at}
 use Rattle.decks.specs.declared.DeckRead.{DeckRead}
 use Rattle.decks.specs.declared.Answer.the-variants.{Fine, NotInitial, NoStep, Holding}
 use Rattle.decks.specs.Answers.{Got}
-use Rattle.decks.specs.Stored.{DeckCame}
+use Rattle.decks.specs.Lent.{DeckCame}
 use Rattle.evaluator.specs.Pending.{All, following}
 use Rattle.truths.specs.Worked.{claimOf, truthWord, Ready, Evaluated}
 use Rattle.steps.specs.Steps.{behind, takenWord, Fit, Given, Zeros, FirstLacking}

@@ -5,7 +5,7 @@ ghost use lib.ListN.{length};
 ghost use Rattle.logic.specs.Decks.{Deck, Accepted, base};
 ghost use Rattle.logic.specs.Verdicts.{verdict};
 ghost use Rattle.decks.specs.Answers.{Got};
-ghost use Rattle.decks.specs.Stored.{DeckCame};
+ghost use Rattle.decks.specs.Lent.{DeckCame};
 ghost use Rattle.truths.specs.Worked.{claimOf};
 ghost use Rattle.steps.specs.Steps.{Zeros};
 ghost use Rattle.claims.specs.Checked.{verdictAnswer};

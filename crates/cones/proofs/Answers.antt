@@ -9,7 +9,7 @@ use Rattle.logic.specs.Expressions.{written}
 use Rattle.logic.specs.Decks.{Equation, Deck, Allowed, Accepted, base}
 use Rattle.logic.specs.Cones.{cone}
 use Rattle.decks.specs.declared.Answer.the-variants.{Fine, Outside}
-use Rattle.decks.specs.Stored.{HoldsEquations}
+use Rattle.decks.specs.Lent.{HoldsEquations}
 use Rattle.cones.specs.Dependencies.{Small, Given}
 use Rattle.cones.specs.Cone.{lowestOutside, coneRead}
 

@@ -7,7 +7,8 @@ use Rattle.logic.specs.Expressions.{code, Narrow}
 use Rattle.logic.specs.Decks.{Equation, base, totalNodes}
 use Rattle.terms.specs.Nodes.{Stands}
 use Rattle.terms.proofs.Trees.{stands-at}
-use Rattle.decks.specs.Stored.{codes, HoldsEquations}
+use Rattle.decks.specs.Stored.{codes}
+use Rattle.decks.specs.Lent.{HoldsEquations}
 use Rattle.decks.proofs.Stored.{equation, within, length-codes, codes-at}
 
 module _ (qs : List Equation) (lefts ends cs : List ℕ) (n i : ℕ) (held : HoldsEquations qs lefts ends cs n) (h : i < n) where

@@ -7,7 +7,7 @@ use Rattle.lists.specs.Lists.{Each}
 use Rattle.sets.specs.Sets.{union}
 use Rattle.logic.specs.Expressions.{written}
 use Rattle.logic.specs.Decks.{Equation, base}
-use Rattle.decks.specs.Stored.{HoldsEquations}
+use Rattle.decks.specs.Lent.{HoldsEquations}
 
 -- The variables written in any of v's equations: all its equations count.
 unfoldable pub dependsOn : List Equation → ℕ → ℕ

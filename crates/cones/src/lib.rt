@@ -6,7 +6,7 @@ ghost use lib.ListN.{length, getD, set as put, replicate};
 ghost use Rattle.sets.specs.Sets.{union};
 ghost use Rattle.logic.specs.Decks.{Equation, Deck, Accepted, base};
 ghost use Rattle.logic.specs.Cones.{cone};
-ghost use Rattle.decks.specs.Stored.{HoldsEquations};
+ghost use Rattle.decks.specs.Lent.{HoldsEquations};
 ghost use Rattle.cones.specs.Dependencies.{Given, table};
 ghost use Rattle.cones.specs.Cone.{coneRead};
 

@@ -20,7 +20,7 @@ use Rattle.decks.specs.Answers.{Outcome, Got, Refused, refuse, afterwards}
 use Rattle.decks.proofs.Outcomes.{refuse-got, afterwards-got}
 use Rattle.decks.proofs.Complete.{left-more}
 use Rattle.decks.proofs.Stored.{total-more, equations-more}
-use Rattle.decks.specs.Stored.{HoldsEquations}
+use Rattle.decks.specs.Lent.{HoldsEquations}
 use Rattle.frames.specs.Hex.{number}
 use Rattle.frames.specs.Read.{DueInit, DueAny, DueEquation, DueCount, Sofar, begun, readExpr, wholeExpr, setLine, initLine, propertyLine, withEquation, equationLine, kindOf, lastLeft}
 use Rattle.decks.specs.Readings.{Reading, Whole, Wrong, Deep, leftSet}

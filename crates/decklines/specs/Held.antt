@@ -9,7 +9,7 @@ use Rattle.logic.specs.Expressions.{Expr, nodes, written, temporal, code}
 use Rattle.logic.specs.Decks.{base, totalNodes}
 use Rattle.decks.specs.declared.Answer.the-variants.{Fine}
 use Rattle.decks.specs.Answers.{Outcome, Got, Refused}
-use Rattle.decks.specs.Stored.{HoldsEquations}
+use Rattle.decks.specs.Lent.{HoldsEquations}
 use Rattle.frames.specs.Read.{Due, DueSet, DueInit, DueAny, DueEquation, DueCount, DueNone, Sofar, lastLeft}
 use Rattle.decks.specs.Readings.{leftSet}
 use Rattle.lines.specs.Steps.{nodesOf}

@@ -8,7 +8,7 @@ ghost use Rattle.logic.specs.Expressions.{Expr};
 ghost use Rattle.logic.specs.Decks.{Deck, base};
 ghost use Rattle.decks.specs.declared.Answer.the-variants.{BadFrame};
 ghost use Rattle.decks.specs.Answers.{Got, Refused};
-ghost use Rattle.decks.specs.Stored.{HoldsEquations};
+ghost use Rattle.decks.specs.Lent.{HoldsEquations};
 ghost use Rattle.lines.specs.Steps.{Kept};
 ghost use Rattle.frames.specs.Read.{Sofar, begun, wholeExpr, setLine, initLine, withEquation, equationLine, propertyLine};
 ghost use Rattle.decklines.specs.Held.{heldOf, lineOf, exprOf, InitCame, PropertyCame, EquationCame, Room, Stored};

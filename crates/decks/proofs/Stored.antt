@@ -16,7 +16,8 @@ use Rattle.decks.specs.declared.Deck.{Deck as Stored}
 use Rattle.decks.specs.declared.DeckRead.{DeckRead}
 use Rattle.decks.specs.declared.Answer.{Answer}
 use Rattle.decks.specs.Answers.{Outcome, Got, Refused}
-use Rattle.decks.specs.Stored.{leftsOf, endsOf, codes, HoldsEquations, stored, deckRead, DeckCame}
+use Rattle.decks.specs.Stored.{leftsOf, endsOf, codes, stored}
+use Rattle.decks.specs.Lent.{HoldsEquations, deckRead, DeckCame}
 
 -- What stands for an equation behind the last one.
 abbrev noEquation : Equation

@@ -1,3 +1,4 @@
 pub mod Answers
 pub mod Stored
+pub mod Lent
 pub mod Readings

@@ -5,7 +5,8 @@ ghost use lib.ListN.{length, take, getD, set};
 ghost use Rattle.lists.specs.Lists.{stands};
 ghost use Rattle.logic.specs.Decks.{base};
 ghost use Rattle.decks.specs.Answers.{Refused, replyOf};
-ghost use Rattle.decks.specs.Stored.{blank, deckRead, sizesOf};
+ghost use Rattle.decks.specs.Stored.{blank, sizesOf};
+ghost use Rattle.decks.specs.Lent.{deckRead};
 
 // Document 01's sizes.
 pub const TEXT: usize = 64800;

@@ -19,7 +19,8 @@ use Rattle.logic.specs.Expressions as Expressions
 use Rattle.logic.specs.Decks.{Equation, base}
 use Rattle.logic.specs.Pieces.{equationsOf}
 use Rattle.logic.proofs.Codes.{length-code, nodes-some}
-use Rattle.decks.specs.Stored.{HoldsEquations, leftsOf, endsOf, codes}
+use Rattle.decks.specs.Stored.{leftsOf, endsOf, codes}
+use Rattle.decks.specs.Lent.{HoldsEquations}
 use Rattle.decks.proofs.Stored.{length-lefts, length-ends}
 use Rattle.frames.specs.Hex.{pair}
 use Rattle.frames.specs.Written.{equationKind, nodePairs, frame, equationFrames}

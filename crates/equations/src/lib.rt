@@ -7,7 +7,7 @@ ghost use Rattle.lists.specs.Lists.{splice, keep, part};
 ghost use Rattle.sets.specs.Sets.{has};
 ghost use Rattle.logic.specs.Decks.{Equation, base};
 ghost use Rattle.logic.specs.Pieces.{equationsOf};
-ghost use Rattle.decks.specs.Stored.{HoldsEquations};
+ghost use Rattle.decks.specs.Lent.{HoldsEquations};
 ghost use Rattle.frames.specs.Hex.{pair};
 ghost use Rattle.frames.specs.Written.{equationKind, nodePairs, frame, equationFrames};
 ghost use Rattle.writing.specs.Parts.{Nodes};

@@ -14,7 +14,7 @@ use Rattle.terms.specs.Nodes.{variablesOf}
 use Rattle.terms.proofs.Trees.{variables-code}
 use Rattle.cones.specs.Dependencies.{rows, table}
 use Rattle.frames.specs.Written.{deckFrames}
-use Rattle.texts.specs.Texts.{Lent, deckOf, framesOf}
+use Rattle.texts.specs.Lent.{Lent, deckOf, framesOf}
 use Rattle.pieces.specs.Laid.{Placed}
 
 pub cone-closed : (deps : List ℕ) (s set c : ℕ) → set ≡ s → ((qs : List Equation) → deps ≡ table qs → c ≡ cone qs set) → (qs : List Equation) → deps ≡ table qs → c ≡ cone qs s

@@ -14,11 +14,11 @@ use Rattle.logic.proofs.Codes.{written-narrow, length-code}
 use Rattle.decks.specs.declared.DeckRead.{DeckRead}
 use Rattle.decks.specs.declared.Answer.the-variants.{Fine, NoRoom}
 use Rattle.decks.specs.Answers.{Got}
-use Rattle.decks.specs.Stored.{DeckCame}
+use Rattle.decks.specs.Lent.{DeckCame}
 use Rattle.terms.specs.Nodes.{Stands}
 use Rattle.cones.specs.Dependencies.{Given, table}
 use Rattle.cones.proofs.Answers.{accepted-given}
-use Rattle.texts.specs.Texts.{Lent}
+use Rattle.texts.specs.Lent.{Lent}
 use Rattle.texts.proofs.Laws.{came-lent}
 use Rattle.conjuncts.specs.Conjuncts.{bounds, Coded}
 use Rattle.conjuncts.proofs.Laws.{length-bounds, split-most, row-bounded}

@@ -7,7 +7,7 @@ use Rattle.sets.specs.Sets.{_⊆_}
 use Rattle.logic.specs.Expressions.{Expr, code, written}
 use Rattle.logic.specs.Decks.{Deck, Accepted, base}
 use Rattle.logic.specs.Pieces.{split}
-use Rattle.decks.specs.Stored.{HoldsEquations}
+use Rattle.decks.specs.Lent.{HoldsEquations}
 use Rattle.cones.specs.Dependencies.{table}
 use Rattle.writing.specs.Parts.{Nodes}
 use Rattle.lists.specs.Lists.{part}

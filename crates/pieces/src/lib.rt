@@ -12,7 +12,7 @@ ghost use Rattle.logic.specs.Pieces.{piece};
 ghost use Rattle.terms.specs.Nodes.{variablesOf};
 ghost use Rattle.cones.specs.Dependencies.{table};
 ghost use Rattle.decks.specs.Answers.{Got};
-ghost use Rattle.decks.specs.Stored.{DeckCame};
+ghost use Rattle.decks.specs.Lent.{DeckCame};
 ghost use Rattle.frames.specs.Written.{deckFrames};
 ghost use Rattle.pieces.specs.Laid.{Placed, Bound};
 ghost use Rattle.pieces.specs.Reduced.{pieceBytes, reduced, reducedInto};

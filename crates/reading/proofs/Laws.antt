@@ -18,7 +18,8 @@ use Rattle.decks.specs.declared.Answer.{Answer}
 use Rattle.decks.specs.declared.Answer.the-variants.{Fine, TooLong, BadFrame, NoEquation}
 use Rattle.decks.specs.declared.DeckRead.{DeckRead}
 use Rattle.decks.specs.Answers.{Outcome, Got, Refused, refuse, afterwards}
-use Rattle.decks.specs.Stored.{leftsOf, endsOf, codes, HoldsEquations, Blank, deckRead, DeckCame}
+use Rattle.decks.specs.Stored.{leftsOf, endsOf, codes}
+use Rattle.decks.specs.Lent.{HoldsEquations, Blank, deckRead, DeckCame}
 use Rattle.decks.proofs.Stored.{length-codes, refused-came}
 use Rattle.decks.proofs.Complete.{complete-none, complete-some}
 use Rattle.frames.specs.Hex.{byteOf}

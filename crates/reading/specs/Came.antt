@@ -6,7 +6,7 @@ use lib.ListN.{length}
 use Rattle.lists.specs.Lists.{padded}
 use Rattle.logic.specs.Decks.{Deck, base}
 use Rattle.decks.specs.Answers.{Outcome, Got, Refused}
-use Rattle.decks.specs.Stored.{HoldsEquations}
+use Rattle.decks.specs.Lent.{HoldsEquations}
 use Rattle.frames.specs.Read.{Due, DueSet, DueInit, DueAny, DueEquation, DueCount, DueNone, Sofar}
 use Rattle.decklines.specs.declared.Held.{Held}
 use Rattle.decklines.specs.declared.LineRead.{LineRead}

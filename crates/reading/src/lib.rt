@@ -5,7 +5,7 @@ ghost use Prim.Native.Nat.{_≤_};
 ghost use lib.Dec.{eqb};
 ghost use lib.ListN.{drop};
 ghost use Rattle.decks.specs.Answers.{Refused};
-ghost use Rattle.decks.specs.Stored.{Blank, DeckCame};
+ghost use Rattle.decks.specs.Lent.{Blank, DeckCame};
 ghost use Rattle.frames.specs.Written.{equationKind, propertyKind};
 ghost use Rattle.frames.specs.Read.{Due, DueCount, DueNone, Sofar, countLine, permits, deckLine, readDeck};
 ghost use Rattle.decklines.specs.Held.{dueNumber, heldOf, lineOf};

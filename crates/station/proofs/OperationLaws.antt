@@ -14,7 +14,8 @@ use Rattle.decks.specs.declared.Deck.{Deck as Stored}
 use Rattle.decks.specs.declared.DeckRead.{DeckRead}
 use Rattle.decks.specs.declared.ClaimRead.{ClaimRead}
 use Rattle.decks.specs.Answers.{Outcome, Got, Refused, replyOf}
-use Rattle.decks.specs.Stored.{HoldsEquations, stored, blank, deckRead, claimRead, DeckCame, ClaimCame}
+use Rattle.decks.specs.Stored.{stored, blank}
+use Rattle.decks.specs.Lent.{HoldsEquations, deckRead, claimRead, DeckCame, ClaimCame}
 use Rattle.decks.proofs.Stored.{storedIn, came-stored, came-equations}
 use Rattle.texts.specs.declared.Written.{Written}
 use Rattle.texts.specs.Texts.{deckWritten}

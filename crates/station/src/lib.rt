@@ -5,7 +5,7 @@ ghost use Prim.Native.Nat.{ℕ, _*_, _<_};
 ghost use lib.ListN.{length};
 ghost use Rattle.logic.specs.Decks.{Deck, Accepted, base};
 ghost use Rattle.decks.specs.Answers.{Outcome, Got, replyOf};
-ghost use Rattle.decks.specs.Stored.{DeckCame};
+ghost use Rattle.decks.specs.Lent.{DeckCame};
 ghost use Rattle.claims.specs.Checked.{claimChecked, deckChecked, checked as claimAnswer};
 ghost use Rattle.claimreading.specs.Held.{RoomFor};
 ghost use Rattle.station.specs.Promises.{deckReply, countReply, readReply, writeReply, writeBuffer, reduceReply, reduceBuffer, coneReply, ReadsFrames, ReadsCards, WritesFrames, WritesCards, ReducesFrames, ReducesCards, FindsCone, ChecksClaim};

@@ -11,7 +11,7 @@ use Rattle.logic.specs.Expressions.{Expr, Plain, value, levels, Narrow}
 use Rattle.logic.specs.Decks.{Equation, base}
 use Rattle.logic.specs.Verdicts.{taken}
 use Rattle.terms.specs.Nodes.{Stands}
-use Rattle.decks.specs.Stored.{HoldsEquations}
+use Rattle.decks.specs.Lent.{HoldsEquations}
 use Rattle.evaluator.specs.Pending.{All, following, tops}
 
 -- The state behind step k.

@@ -7,20 +7,13 @@ use lib.ListN.{length, getD}
 use Rattle.logic.specs.Expressions.{Expr, Const, Var, One, Two, nodes, levels}
 use Rattle.logic.proofs.Codes.{nodes-some}
 use Rattle.terms.specs.declared.Reach.{Reach}
-use Rattle.terms.specs.Nodes.{placesOf, Stands}
+use Rattle.terms.specs.Nodes.{placesOf, operands, Stands}
 use Rattle.terms.specs.Reaches.{Reaches}
 use Rattle.terms.proofs.Laws.{places-few}
 use Rattle.terms.proofs.Trees.{places-const, places-var, places-one, places-two, stands-node, stands-within, stands-operand, stands-first, stands-second}
 
--- The number of operands of the expression's first node.
-abbrev operands : Expr → ℕ
-operands (Const b) = 0
-operands (Var v) = 0
-operands (One o e) = 1
-operands (Two o a b) = 2
-
 module _ (cs : List ℕ) (i : ℕ) where
-  stands-places : (e : Expr) → Stands cs i e → placesOf (getD cs i 0) ≡ operands e
+  pub stands-places : (e : Expr) → Stands cs i e → placesOf (getD cs i 0) ≡ operands e
   stands-places (Const b) s = ap placesOf (stands-node cs i (Const b) s) ∙ places-const b
   stands-places (Var v) s = ap placesOf (stands-node cs i (Var v) s) ∙ places-var v (s .0)
   stands-places (One o a) s = ap placesOf (stands-node cs i (One o a) s) ∙ places-one o

@@ -6,7 +6,7 @@ use Prim.Native.Nat.{ℕ, zero, suc, _+_}
 use lib.Dec.{ltb, leb}
 use lib.ListN.{drop}
 use Rattle.sets.specs.Sets.{only, union, width}
-use Rattle.logic.specs.Expressions.{Expr, Not, Next, And, Until, Narrow, constNode, node1, node2, code}
+use Rattle.logic.specs.Expressions.{Expr, Const, Var, One, Two, Not, Next, And, Until, Narrow, constNode, node1, node2, code}
 
 -- Whether the node is a variable.
 abbrev pub variable? : ℕ → Bool
@@ -22,6 +22,13 @@ placesOf c =
         | false ↦ elim (ltb c (node1 Next)) [ true ↦ 2 | false ↦ elim (ltb c (node2 Until)) [ true ↦ 1 | false ↦ 2 ] ]
       ]
     ]
+
+-- How many operands the first node of the expression has.
+abbrev pub operands : Expr → ℕ
+operands (Const b) = 0
+operands (Var v) = 0
+operands (One o e) = 1
+operands (Two o a b) = 2
 
 -- Whether the node is `0` or `1`.
 unfoldable pub constant? : ℕ → Bool

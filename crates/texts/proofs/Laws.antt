@@ -23,7 +23,8 @@ use Rattle.decks.specs.declared.Deck.{Deck as Stored}
 use Rattle.decks.specs.declared.Answer.the-variants.{Fine, NoRoom}
 use Rattle.decks.specs.declared.DeckRead.{DeckRead}
 use Rattle.decks.specs.Answers.{Got}
-use Rattle.decks.specs.Stored.{HoldsEquations, endsOf, codes, stored, deckRead, DeckCame}
+use Rattle.decks.specs.Stored.{endsOf, codes, stored}
+use Rattle.decks.specs.Lent.{HoldsEquations, deckRead, DeckCame}
 use Rattle.decks.proofs.Stored.{length-ends, ends-at, storedIn, came-stored}
 use Rattle.frames.specs.Hex.{pair, pairs}
 use Rattle.frames.specs.Written.{claimKind, stateKind, claimCountKind, claimFrames, setBytes, setKind, initKind, propertyKind, countKind, nodePairs, frame, stateFrames, equationFrames, deckFrames}
@@ -34,7 +35,8 @@ use Rattle.writing.specs.Parts.{Nodes}
 use Rattle.writing.proofs.Laws.{splice-behind, three-parts}
 use Rattle.texts.specs.declared.Written.{Written}
 use Rattle.equations.proofs.Laws.{count-is-equations}
-use Rattle.texts.specs.Texts.{Lent, deckOf, framesOf, Filled, filled, claimOf}
+use Rattle.texts.specs.Texts.{Filled, filled}
+use Rattle.texts.specs.Lent.{Lent, deckOf, framesOf, claimOf}
 
 -- ---- 01 and 02s; 04 and 05
 

@@ -8,11 +8,13 @@ ghost use Rattle.logic.specs.Expressions.{Expr};
 ghost use Rattle.logic.specs.Decks.{Equation, Deck, Accepted, base};
 ghost use Rattle.logic.specs.Meaning.{Sized};
 ghost use Rattle.decks.specs.Answers.{Got};
-ghost use Rattle.decks.specs.Stored.{endsOf, deckRead, DeckCame};
+ghost use Rattle.decks.specs.Stored.{endsOf};
+ghost use Rattle.decks.specs.Lent.{deckRead, DeckCame};
 ghost use Rattle.frames.specs.Hex.{pairs};
 ghost use Rattle.frames.specs.Written.{setBytes, setKind, initKind, propertyKind, countKind, nodePairs, frame, stateFrames, deckFrames, claimFrames};
 ghost use Rattle.writing.specs.Parts.{Nodes};
-ghost use Rattle.texts.specs.Texts.{Lent, framesOf, deckWritten, claimWritten, claimOf};
+ghost use Rattle.texts.specs.Texts.{deckWritten, claimWritten};
+ghost use Rattle.texts.specs.Lent.{Lent, framesOf, claimOf};
 
 // What a writer answers, and how many bytes it wrote.
 pub struct Written {

@@ -14,10 +14,11 @@ use Rattle.logic.specs.Meaning.{Claim, Sized}
 use Rattle.logic.specs.Verdicts.{truth}
 use Rattle.logic.proofs.Codes.{nodes-some, levels-some}
 use Rattle.logic.proofs.Verdict.{truth-lt}
-use Rattle.terms.specs.Nodes.{placesOf, Stands}
-use Rattle.terms.proofs.Trees.{headNode, places-const, places-var, places-one, places-two, stands-node, stands-within, stands-operand, stands-first, stands-second}
+use Rattle.terms.specs.Nodes.{placesOf, operands, Stands}
+use Rattle.terms.proofs.Levels.{stands-places}
+use Rattle.terms.proofs.Trees.{headNode, stands-node, stands-within, stands-operand, stands-first, stands-second}
 use Rattle.evaluator.specs.Pending.{top, second, pushed, topped, joined, All, Below, settled, variableWord, nextWord, sweptWord}
-use Rattle.truths.specs.Worked.{claimOf, operands, truthWord, Worked, Leaf, Applied1, Applied2, Ready, Ends, Evaluated}
+use Rattle.truths.specs.Worked.{claimOf, truthWord, Worked, Leaf, Applied1, Applied2, Ready, Ends, Evaluated}
 use Rattle.truths.proofs.Operators.{all-as, not-worked, next-worked, future-worked, always-worked, and-worked, or-worked, until-worked, weak-worked}
 
 -- ---- constants and variables
@@ -124,12 +125,6 @@ worked-below m e k old new b w i h =
 -- ---- the expression and its operands
 
 module _ (ns : List ℕ) (i : ℕ) where
-  places-are : (e : Expr) → Stands ns i e → placesOf (getD ns i 0) ≡ operands e
-  places-are (Const b) s = ap placesOf (stands-node ns i (Const b) s) ∙ places-const b
-  places-are (Var v) s = ap placesOf (stands-node ns i (Var v) s) ∙ places-var v (s .0)
-  places-are (One o a) s = ap placesOf (stands-node ns i (One o a) s) ∙ places-one o
-  places-are (Two o a b) s = ap placesOf (stands-node ns i (Two o a b) s) ∙ places-two o
-
   module _ (states : List ℕ) (p : ℕ) where
     -- The sizes of a claim of these states.
     long : p < length states → length states ≡ p + (length states - p)
@@ -159,7 +154,7 @@ module _ (ns : List ℕ) (i : ℕ) where
 
       module _ (node o : ℕ) (its-node : node ≡ getD ns i 0) (its-places : o ≡ placesOf node) where
         operands-are : (e : Expr) → Stands ns i e → o ≡ operands e
-        operands-are e s = its-places ∙ ap placesOf its-node ∙ places-are e s
+        operands-are e s = its-places ∙ ap placesOf its-node ∙ stands-places ns i e s
 
         head-is : (e : Expr) → Stands ns i e → node ≡ headNode e
         head-is e s = its-node ∙ stands-node ns i e s

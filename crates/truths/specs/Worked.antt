@@ -7,20 +7,13 @@ use Rattle.logic.specs.Expressions.{Expr, Const, Var, One, Two, Op1, Op2, node1
 use Rattle.logic.specs.Decks.{Limits}
 use Rattle.logic.specs.Meaning.{Claim, Sized}
 use Rattle.logic.specs.Verdicts.{truth}
-use Rattle.terms.specs.Nodes.{Stands}
+use Rattle.terms.specs.Nodes.{operands, Stands}
 use Rattle.terms.proofs.Trees.{headNode}
 use Rattle.evaluator.specs.Pending.{pushed, All, Below}
 
 -- The claim of these states whose run returns to state p.
 abbrev pub claimOf : ℕ → List ℕ → Claim
 claimOf p states = record { p = p; c = length states - p; states = states }
-
--- The number of operands of the expression's first node.
-abbrev pub operands : Expr → ℕ
-operands (Const b) = 0
-operands (Var v) = 0
-operands (One o e) = 1
-operands (Two o a b) = 2
 
 -- What becomes of the word w at state i: the truth of e there is pushed.
 unfoldable pub truthWord : Claim → Expr → ℕ → ℕ → ℕ

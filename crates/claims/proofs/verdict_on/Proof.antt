@@ -2,7 +2,7 @@ use mathlib.Core.Path.{_≡_}
 use Rattle.logic.specs.Decks.{Deck, Accepted, base}
 use Rattle.logic.specs.Verdicts.{verdict, stepsFrom}
 use Rattle.decks.specs.Answers.{Got}
-use Rattle.decks.specs.Stored.{DeckCame}
+use Rattle.decks.specs.Lent.{DeckCame}
 use Rattle.truths.specs.Worked.{claimOf}
 use Rattle.claims.proofs.Verdict as laws
 use borrow.Author.Needs.{needs}
