@@ -29,7 +29,7 @@ use Rattle.texts.specs.Texts.{filled}
 use Rattle.cones.specs.Cone.{coneRead}
 use Rattle.pieces.specs.Reduced.{allFrames, reduced, reducedInto}
 use Rattle.claims.specs.Checked.{checked}
-use Rattle.station.proofs.Worked.{text, worked, pieceOne, pieceTwo}
+use Rattle.demands.proofs.Worked.{text, worked, pieceOne, pieceTwo}
 use Rattle.printing.specs.Printed.{refusalFrame, printedAs, printed}
 
 unfoldable pub tabbed : List ℕ

@@ -1,4 +1,3 @@
-pub mod OneReply
 pub mod Numbered
 pub mod NumberedCards
 pub mod NumberedFrames
@@ -6,5 +5,3 @@ pub mod OperationLaws
 pub mod ReplyLaws
 pub mod Sizes
 pub mod PackLaws
-pub mod Demands
-pub mod Worked

@@ -1,0 +1,3 @@
+pub mod Demands
+pub mod OneReply
+pub mod Worked
