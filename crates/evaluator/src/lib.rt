@@ -1,5 +1,5 @@
 // The values of an expression at all states of a claim side by side: one word of pending values for each state.
-// Each function here is one operator, in one or two passes over the words. What is done to a word has no branch, so that the passes run on vectors.
+// Each function here is one operator, in one or two passes over the words. What `~`, `&`, `+` and a variable do to a word has no branch, so that their passes run on vectors.
 ghost use mathlib.Core.Path.{_≡_};
 ghost use Prim.Native.Nat.{ℕ, _+_, _*_, _-_, _/_, _%_, _^_, _<_, _≤_, min, max};
 ghost use lib.ListN.{length, getD, set};
