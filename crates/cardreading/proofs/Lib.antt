@@ -1,3 +1,2 @@
-pub mod FinishLaws
 pub mod ReadLaws
 pub mod WalkLaws

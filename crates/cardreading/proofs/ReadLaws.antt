@@ -8,7 +8,8 @@ use lib.ListN.{length, drop, replicate, length-replicate}
 use denote.Enum.Declared.{tagOf}
 use types.Run.{OneOf, miss}
 use borrow.Author.Tests.{lt-ltb, le-ltb, not-true, not-false}
-use Rattle.logic.specs.Decks.{Equation, Deck}
+use Rattle.lists.specs.Lists.{Each}
+use Rattle.logic.specs.Decks.{Equation, Deck, base}
 use Rattle.decks.specs.declared.Answer.{Answer}
 use Rattle.decks.specs.declared.Answer.the-variants.{Fine, TooLong, NotDue}
 use Rattle.decks.specs.declared.DeckRead.{DeckRead}
@@ -21,6 +22,7 @@ use Rattle.cards.specs.Card.{cardsOf, inForm}
 use Rattle.cards.specs.Statement.{statementsOf}
 use Rattle.cards.specs.Typed.{risingFrom, deckOf}
 use Rattle.cards.specs.Read.{Due, DueVars, DueInit, DueAny, DueEquation, DueEnd, DueNone, Sofar, begun, statementRead, cardsEnd, readCards}
+use Rattle.cards.proofs.TypedLaws.{allowed-lefts}
 use Rattle.cards.proofs.StatementLaws.{walk-spelt}
 use Rattle.firstpass.specs.Passed.{passed}
 use Rattle.firstpass.proofs.Laws.{passed-fine, passed-refused}
@@ -29,9 +31,9 @@ use Rattle.statements.proofs.Laws.{formed-whole}
 use Rattle.sorting.specs.Sorting.{Sortable}
 use Rattle.cardlines.specs.declared.Held.{Held}
 use Rattle.cardlines.specs.declared.StatementRead.{StatementRead}
-use Rattle.cardlines.specs.Held.{dueNumber, Holds, Came}
-use Rattle.cardreading.specs.Finished.{Ready, Sorted, Empty}
-use Rattle.cardreading.proofs.FinishLaws.{sorted}
+use Rattle.cardlines.specs.Held.{dueNumber, PropertyHeld, Holds, Came}
+use Rattle.cardends.specs.Sorted.{Sorted}
+use Rattle.cardreading.specs.Finished.{Ready, Empty}
 
 -- Rows of zeros before the first statement.
 pub blank-empty : (inits lefts ends nodes property : List ℕ) → Blank inits lefts ends nodes property → Empty inits (replicate 1320 0) lefts ends nodes property
@@ -68,6 +70,33 @@ end-missing s DueNone e h = absurd (h refl)
 end-complete : (s : Sofar) → s .due ≡ DueNone → cardsEnd s ≡ complete (deckOf (s .typed))
 unfolding cardsEnd
 end-complete s e = simp (e, cardsEnd)
+
+-- ---- what is ready can be sorted
+
+module _ (s : Sofar) (held : Held) (inits lefts ends nodes′ property : List ℕ) (r : Ready s held inits lefts ends nodes′ property) where
+  lefts-within : Each (λ (q : Equation). q .left < s .typed .count) (s .typed .equations)
+  lefts-within = allowed-lefts base (s .typed) (r .stated .begins .equations-allowed)
+
+  sortable : Sortable (s .typed .equations) (held .count) lefts ends nodes′ (held .equations)
+  sortable =
+      subst (λ (x : Held). Sortable (s .typed .equations) (x .count) lefts ends nodes′ (x .equations)) (sym (r .holds .held-is))
+      (record { holds = r .holds .equations-are; lefts-below = lefts-within; few = r .stated .begins .equations-most; small = r .stated .begins .equations-nodes })
+
+  -- Whichever equations the arrays held, these hold them by rising variable.
+  sorted : (tl te tn : List ℕ) → ((qs : List Equation) → Sortable qs (held .count) lefts ends nodes′ (held .equations) → HoldsEquations (risingFrom 0 (held .count) qs) tl te tn (held .equations)) → Sorted s held inits tl te tn property
+  unfolding deckOf
+  sorted tl te tn f =
+      record {
+        held-is = r .holds .held-is;
+        inits-are = r .holds .inits-are;
+        equations-are = subst (λ (n : ℕ). HoldsEquations (risingFrom 0 n (s .typed .equations)) tl te tn (held .equations)) (ap (λ (x : Held). x .count) (r .holds .held-is)) (f (s .typed .equations) sortable);
+        property-is = subst (λ (u : Due). PropertyHeld u (s .typed .property) (held .size) property) (r .ended) (r .holds .property-is);
+        stated = r .stated;
+      }
+
+module _ (held : Held) (inits lefts ends nodes′ property : List ℕ) where
+  pub can-sort : ((s : Sofar) × Ready s held inits lefts ends nodes′ property) → (qs : List Equation) × Sortable qs (held .count) lefts ends nodes′ (held .equations)
+  can-sort (s, r) = (s .typed .equations, sortable s held inits lefts ends nodes′ property r)
 
 -- ---- the second pass
 

@@ -23,7 +23,7 @@ use Rattle.frames.specs.Read.{kindOf, wholeNumber, countLine, ClaimSofar, Claim
 use Rattle.decks.specs.Readings.{walk}
 use Rattle.lines.specs.declared.Number.{Number}
 use Rattle.lines.specs.declared.Number.the-variants.{Good, Bad}
-use Rattle.lines.specs.Steps.{numberRead, countIs}
+use Rattle.lines.specs.Numbers.{numberRead, countIs}
 use Rattle.ends.specs.Ends.{lineLength}
 use Rattle.lines.proofs.Laws.{whole-number-none, whole-number-some, number-long, count-line}
 use Rattle.ends.proofs.Laws.{ended-at, unended-at, ended-last, unended-last}

@@ -26,10 +26,11 @@ use Rattle.frames.specs.Read.{DueInit, DueAny, DueEquation, DueCount, Sofar, be
 use Rattle.decks.specs.Readings.{Reading, Whole, Wrong, Deep, leftSet}
 use Rattle.lines.specs.declared.Number.{Number}
 use Rattle.lines.specs.declared.Number.the-variants.{Good, Bad}
-use Rattle.lines.specs.declared.Step.{Step}
-use Rattle.lines.specs.Steps.{numberRead, stepOf, nodesOf, Kept}
+use Rattle.lines.specs.Numbers.{numberRead}
 use Rattle.lines.proofs.Laws.{whole-number-none, whole-number-some, pair-inside}
-use Rattle.lines.proofs.Steps.{whole-spans, whole-when, whole-next}
+use Rattle.codes.specs.declared.Step.{Step}
+use Rattle.codes.specs.Steps.{stepOf, nodesOf, Kept}
+use Rattle.codes.proofs.Steps.{whole-spans, whole-when, whole-next}
 use Rattle.decklines.specs.declared.Held.{Held}
 use Rattle.decklines.specs.declared.LineRead.{LineRead}
 use Rattle.decklines.specs.declared.ExprRead.{ExprRead}

@@ -12,7 +12,7 @@ use Rattle.decks.specs.Answers.{Outcome, Got, Refused}
 use Rattle.decks.specs.Lent.{HoldsEquations}
 use Rattle.frames.specs.Read.{Due, DueSet, DueInit, DueAny, DueEquation, DueCount, DueNone, Sofar, lastLeft}
 use Rattle.decks.specs.Readings.{leftSet}
-use Rattle.lines.specs.Steps.{nodesOf}
+use Rattle.codes.specs.Steps.{nodesOf}
 use Rattle.decklines.specs.declared.Held.{Held}
 use Rattle.decklines.specs.declared.LineRead.{LineRead}
 use Rattle.decklines.specs.declared.ExprRead.{ExprRead}

@@ -9,7 +9,7 @@ ghost use Rattle.logic.specs.Decks.{Deck, base};
 ghost use Rattle.decks.specs.declared.Answer.the-variants.{BadFrame};
 ghost use Rattle.decks.specs.Answers.{Got, Refused};
 ghost use Rattle.decks.specs.Lent.{HoldsEquations};
-ghost use Rattle.lines.specs.Steps.{Kept};
+ghost use Rattle.codes.specs.Steps.{Kept};
 ghost use Rattle.frames.specs.Read.{Sofar, begun, wholeExpr, setLine, initLine, withEquation, equationLine, propertyLine};
 ghost use Rattle.decklines.specs.Held.{heldOf, lineOf, exprOf, InitCame, PropertyCame, EquationCame, Room, Stored};
 
@@ -118,11 +118,11 @@ pub fn expression_line(line: &[u8], at: usize, n: u64, out: &mut [u16], used: us
     requires { ⌜ (at ≤ length (now line)) × (used ≤ length (now out)) ⌝ }
     ensures { λ r. ⌜ (r ≡ exprOf (wholeExpr n (drop at (now (line .entry))))) × (at + 2 * r .nodes ≤ length (now (line .entry))) × (length (now (out .exit)) ≡ length (now (out .entry))) × (not (r .fine) ≡ false → Kept (now (line .entry)) at used (r .nodes) (now (out .entry)) (now (out .exit))) ⌝ }
 {
-    let e = lines::expression(line, at, decks::LEVELS, out, used);
-    if e.stop == lines::DEEP {
+    let e = codes::expression(line, at, decks::LEVELS, out, used);
+    if e.stop == codes::DEEP {
         return no_expression(decks::Answer::TooDeep(n));
     }
-    if e.stop != lines::WHOLE {
+    if e.stop != codes::WHOLE {
         return no_expression(decks::Answer::BadFrame(DECK_TEXT, n));
     }
     if e.next != line.len() {
@@ -299,7 +299,7 @@ pub fn equation_line(
         return r;
     }
     let held = r.held;
-    lines::put_node(lefts, h.equations, held.last as u16);
-    lines::put_node(ends, h.equations, held.used as u16);
+    codes::put_node(lefts, h.equations, held.last as u16);
+    codes::put_node(ends, h.equations, held.used as u16);
     r
 }

@@ -1,7 +1,7 @@
 -- Pending values: one word for each state of a claim, its lowest digit the value that was worked out last.
 use mathlib.Core.Path.{_≡_}
 use mathlib.Core.List.{List}
-use Prim.Native.Nat.{ℕ, zero, suc, _+_, _*_, _-_, _/_, _%_, _^_, _<_, _≤_, min, max}
+use Prim.Native.Nat.{ℕ, suc, _+_, _*_, _/_, _%_, _^_, _<_, _≤_}
 use mathlib.Core.Bool.{true, false}
 use lib.Dec.{ltb}
 use lib.ListN.{length, getD}
@@ -34,25 +34,11 @@ pub record Done (f : ℕ → ℕ → ℕ) (i : ℕ) (old new : List ℕ) : Type 
 abbrev pub All : (ℕ → ℕ → ℕ) → List ℕ → List ℕ → Type 0
 All f old new = Done f (length old) old new
 
--- The words from place i on are what f makes of them, the others are as they were.
-pub record Swept (f : ℕ → ℕ → ℕ) (i : ℕ) (old new : List ℕ) : Type 0 where
-  pub same : length new ≡ length old
-  pub before : (j : ℕ) → j < i → getD new j 0 ≡ getD old j 0
-  pub behind : (j : ℕ) → i ≤ j → j < length old → getD new j 0 ≡ f j (getD old j 0)
-
 -- Every word has room for one more value in k digits.
 abbrev pub Below : ℕ → List ℕ → Type 0
 Below k ws = (i : ℕ) → i < length ws → getD ws i 0 < 2 ^ k
 
--- `(aUb)` or `(aWb)` at state i, k states before the end, where v stands behind the last: b, or a and the same one state on.
-unfoldable pub sweep : (ℕ → ℕ) → (ℕ → ℕ) → ℕ → ℕ → ℕ → ℕ
-sweep a b v zero i = v
-sweep a b v (suc k) i = max (b i) (min (a i) (sweep a b v k (suc i)))
-
--- The pending values at state j, the one before the last and the last.
-abbrev pub seconds : List ℕ → ℕ → ℕ
-seconds ws j = second (getD ws j 0)
-
+-- The pending value at state j that was worked out last.
 abbrev pub tops : List ℕ → ℕ → ℕ
 tops ws j = top (getD ws j 0)
 
@@ -67,11 +53,3 @@ variableWord states v i w = pushed w (bit (getD states i 0) v)
 -- What `X` makes of the word w at state i, the words being ws.
 unfoldable pub nextWord : ℕ → List ℕ → ℕ → ℕ → ℕ
 nextWord p ws i w = topped w (tops ws (following (length ws) p i))
-
--- The value at state p, worked out once round.
-abbrev pub settled : ℕ → ℕ → List ℕ → ℕ
-settled p z ws = sweep (seconds ws) (tops ws) z (length ws - p) p
-
--- What `U` (v settled from 0) or `W` (from 1) makes of the word w at state i, the words being ws.
-unfoldable pub sweptWord : ℕ → List ℕ → ℕ → ℕ → ℕ
-sweptWord v ws i w = joined w (sweep (seconds ws) (tops ws) v (length ws - i) i)

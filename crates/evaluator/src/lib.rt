@@ -1,10 +1,10 @@
 // The values of an expression at all states of a claim side by side: one word of pending values for each state.
-// Each function here is one operator, in one or two passes over the words. What `~`, `&`, `+` and a variable do to a word has no branch, so that their passes run on vectors.
+// Each operator but `U` and `W`, which are in `sweeps`, is one pass over the words. What `~`, `&`, `+` and a variable do to a word has no branch, so that their passes run on vectors.
 ghost use mathlib.Core.Path.{_≡_};
-ghost use Prim.Native.Nat.{ℕ, _+_, _*_, _-_, _/_, _%_, _^_, _<_, _≤_, min, max};
+ghost use Prim.Native.Nat.{_+_, _*_, _-_, _/_, _%_, _^_, _<_, min, max};
 ghost use lib.ListN.{length, getD, set};
 ghost use Rattle.sets.specs.Sets.{bit};
-ghost use Rattle.evaluator.specs.Pending.{top, second, pushed, topped, joined, All, Below, sweep, seconds, tops, variableWord, nextWord, settled, sweptWord};
+ghost use Rattle.evaluator.specs.Pending.{top, second, pushed, topped, joined, All, Below, variableWord, nextWord};
 
 // The word at place i.
 pub fn word_at(words: &[u64], i: usize) -> u64
@@ -168,75 +168,4 @@ pub fn next(words: &mut [u64], p: usize)
         i += 1;
     }
     put_top(words, i, back);
-}
-
-// The topmost value, or the one below it and v.
-fn carried(w: u64, v: u64) -> u64
-    requires { ⌜ v < 2 ⌝ }
-    ensures { λ r. ⌜ (r ≡ max (top w) (min (second w) v)) × (r < 2) ⌝ }
-{
-    if w % 2 == 1 {
-        return 1;
-    }
-    if w / 2 % 2 == 1 {
-        return v;
-    }
-    0
-}
-
-// The word with x for its two topmost values.
-fn join(w: u64, x: u64) -> u64
-    requires { ⌜ x < 2 ⌝ }
-    ensures { λ r. ⌜ r ≡ joined w x ⌝ }
-{
-    2 * (w / 4) + x
-}
-
-// The value at state p, once round from the last state back, z behind it.
-fn settle(words: &[u64], p: usize, z: u64) -> u64
-    requires { ⌜ (p < length (now words)) × (z < 2) ⌝ }
-    ensures { λ r. ⌜ (r ≡ settled p z (now (words .entry))) × (r < 2) ⌝ }
-{
-    let mut v = z;
-    let mut i = words.len();
-    while i != p {
-        i -= 1;
-        v = carried(word_at(words, i), v);
-    }
-    v
-}
-
-// The value at every state from the last one back, start behind it, for the two topmost.
-fn sweep(words: &mut [u64], start: u64)
-    requires { ⌜ start < 2 ⌝ }
-    ensures { λ _. ⌜ All (sweptWord start (now (words .entry))) (now (words .entry)) (now (words .exit)) ⌝ }
-{
-    let mut v = start;
-    let mut i = words.len();
-    while i != 0 {
-        i -= 1;
-        let w = word_at(words, i);
-        v = carried(w, v);
-        put_word(words, i, join(w, v));
-    }
-}
-
-// `U` at every state: nothing has come behind the last.
-pub fn until(words: &mut [u64], p: usize)
-    requires { ⌜ p < length (now words) ⌝ }
-    ensures { λ _. ⌜ All (sweptWord (settled p 0 (now (words .entry))) (now (words .entry))) (now (words .entry)) (now (words .exit)) ⌝ }
-{
-    let never = 0;
-    let v = settle(words, p, never);
-    sweep(words, v);
-}
-
-// `W` at every state: the loop may go on for ever.
-pub fn weak(words: &mut [u64], p: usize)
-    requires { ⌜ p < length (now words) ⌝ }
-    ensures { λ _. ⌜ All (sweptWord (settled p 1 (now (words .entry))) (now (words .entry))) (now (words .entry)) (now (words .exit)) ⌝ }
-{
-    let ever = 1;
-    let u = settle(words, p, ever);
-    sweep(words, u);
 }

@@ -1,4 +1,4 @@
--- Laws of pairs, line ends and numbers.
+-- Laws of pairs and numbers.
 use mathlib.Core.Path.{_≡_, refl, sym, ap, _∙_}
 use mathlib.Core.Bool.{Bool, true, false, not, _&&_}
 use mathlib.Core.List.{List, [], _∷_}
@@ -11,13 +11,13 @@ use native.Mathlib.Decide.{ℕ-discrete}
 use lib.Dec.{ltb, leb, eqb, lit<}
 use lib.ListN.{length, drop, getD, length-drop, drop-of-length-le}
 use lib.Seq.{drop-cons, drop-drop}
-use borrow.Author.Tests.{lt-ltb, le-ltb, le-leb, lt-leb, eq-eqb, ne-eqb, eqb-true, ltb-true, ltb-false, not-false}
+use borrow.Author.Tests.{lt-ltb, le-ltb, le-leb, lt-leb, eq-eqb, ne-eqb, eqb-true, ltb-false, not-false}
 use Rattle.frames.specs.Hex.{digitOf, byteOf, numberFrom, number}
 use Rattle.frames.proofs.HexLaws.{pairs-number, length-pairs}
 use Rattle.decks.specs.declared.Answer.the-variants.{BadFrame}
 use Rattle.decks.specs.Answers.{Got, Refused, refuse}
 use Rattle.frames.specs.Read.{kindOf, wholeNumber, countLine}
-use Rattle.lines.specs.Steps.{numberRead, bothZero, countIs}
+use Rattle.lines.specs.Numbers.{numberRead, bothZero, countIs}
 use Rattle.lines.specs.declared.Number.{Number}
 use Rattle.lines.specs.declared.Number.the-variants.{Good, Bad}
 
@@ -58,21 +58,6 @@ kind-long [] h = absurd (omega arith)
 kind-long (c ∷ []) h = absurd (omega arith)
 kind-long (c ∷ d ∷ cs) h = omega arith
 
-byte-most : (h l : ℕ) → byteOf h l ≤ 256
-unfolding byteOf
-byte-most h l = go (ltb (digitOf h) 16) refl (ltb (digitOf l) 16) refl
-  where
-    go : (a : Bool) → ltb (digitOf h) 16 ≡ a → (b : Bool) → ltb (digitOf l) 16 ≡ b → byteOf h l ≤ 256
-    go true p true q = let e : byteOf h l ≡ 16 * digitOf h + digitOf l = simp (p, q, byteOf) in omega (arith, ltb-true (digitOf h) 16 p, ltb-true (digitOf l) 16 q)
-    go true p false q = let e : byteOf h l ≡ 256 = simp (p, q, byteOf) in omega arith
-    go false p b q = let e : byteOf h l ≡ 256 = simp (p, byteOf) in omega arith
-
-pub kind-most : (cs : List ℕ) → kindOf cs ≤ 256
-unfolding kindOf
-kind-most [] = omega arith
-kind-most (c ∷ []) = omega arith
-kind-most (c ∷ d ∷ cs) = byte-most c d
-
 pub drop-two : (l : List ℕ) (at : ℕ) → at + 2 ≤ length l → drop at l ≡ getD l at 0 ∷ getD l (at + 1) 0 ∷ drop (at + 2) l
 drop-two l at h =
     let one : suc at ≡ at + 1 = omega arith in
@@ -109,9 +94,6 @@ module _ (l : List ℕ) (at r : ℕ) where
         let d : ℕ = getD l (at + 1) 0 in
         let z : byteOf c d ≡ 16 * digitOf c + digitOf d = simp (lt-ltb (digitOf c) 16 (rw (← e) i), lt-ltb (digitOf d) 16 (rw (← f) j), byteOf) in
         omega (arith, e, f, z, the-pair h)
-
-  pub pair-most : r ≡ kindOf (drop at l) → r ≤ 256
-  pair-most e = rw e (kind-most (drop at l))
 
   -- A pair that was read stands within the line.
   pub pair-inside : r ≡ kindOf (drop at l) → r < 256 → at + 2 ≤ length l

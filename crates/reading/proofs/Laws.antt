@@ -26,7 +26,7 @@ use Rattle.frames.specs.Hex.{byteOf}
 use Rattle.frames.specs.Read.{Due, DueSet, DueInit, DueAny, DueEquation, DueCount, DueNone, Sofar, begun, kindOf, wholeNumber, wholeExpr, setLine, initLine, lastLeft, withEquation, equationLine, propertyLine, countLine, permits, frameLine, deckLine, deckEnd, readDeck}
 use Rattle.decks.specs.Readings.{walk, leftSet, complete}
 use Rattle.decks.proofs.Outcomes.{Given, refuse-given, afterwards-given}
-use Rattle.lines.specs.Steps.{countIs}
+use Rattle.lines.specs.Numbers.{countIs}
 use Rattle.ends.specs.Ends.{lineLength}
 use Rattle.lines.proofs.Laws.{count-line, pair-inside}
 use Rattle.ends.proofs.Laws.{ended-at, unended-at, ended-last, unended-last}

@@ -17,7 +17,8 @@ use Rattle.logic.proofs.Verdict.{truth-lt}
 use Rattle.terms.specs.Nodes.{placesOf, operands, Stands}
 use Rattle.terms.proofs.Levels.{stands-places}
 use Rattle.terms.proofs.Trees.{headNode, stands-node, stands-within, stands-operand, stands-first, stands-second}
-use Rattle.evaluator.specs.Pending.{top, second, pushed, topped, joined, All, Below, settled, variableWord, nextWord, sweptWord}
+use Rattle.evaluator.specs.Pending.{top, second, pushed, topped, joined, All, Below, variableWord, nextWord}
+use Rattle.sweeps.specs.Swept.{settled, sweptWord}
 use Rattle.truths.specs.Worked.{claimOf, truthWord, Worked, Leaf, Applied1, Applied2, Ready, Ends, Evaluated}
 use Rattle.truths.proofs.Operators.{all-as, not-worked, next-worked, future-worked, always-worked, and-worked, or-worked, until-worked, weak-worked}
 

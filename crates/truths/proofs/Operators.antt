@@ -10,7 +10,8 @@ use Rattle.logic.specs.Decks.{Limits}
 use Rattle.logic.specs.Meaning.{Claim, Sized, follower}
 use Rattle.logic.specs.Verdicts.{unrolled, truth}
 use Rattle.logic.proofs.Verdict.{follower-next, follower-last, follower-lt, truth-lt, truth-is, until-enough, weak-enough}
-use Rattle.evaluator.specs.Pending.{top, second, pushed, topped, joined, All, sweep, seconds, tops, following, nextWord, settled, sweptWord}
+use Rattle.evaluator.specs.Pending.{top, second, pushed, topped, joined, All, tops, following, nextWord}
+use Rattle.sweeps.specs.Swept.{sweep, seconds, settled, sweptWord}
 use Rattle.truths.specs.Worked.{truthWord, Worked}
 
 -- ---- one pass after the other

@@ -36,11 +36,11 @@ fn apply_one(words: &mut [u64], p: usize, node: u16)
     }
     if node == terms::FUTURE {
         evaluator::lift(words);
-        evaluator::until(words, p);
+        sweeps::until(words, p);
         return;
     }
     evaluator::push(words, 0);
-    evaluator::weak(words, p);
+    sweeps::weak(words, p);
 }
 
 // `&`, `+`, `U` or `W`.
@@ -57,10 +57,10 @@ fn apply_two(words: &mut [u64], p: usize, node: u16)
         return;
     }
     if node == terms::UNTIL {
-        evaluator::until(words, p);
+        sweeps::until(words, p);
         return;
     }
-    evaluator::weak(words, p);
+    sweeps::weak(words, p);
 }
 
 // The expression that begins at `at`, of no more levels than are left, at every state; and where it ends.

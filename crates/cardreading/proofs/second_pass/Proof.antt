@@ -1,5 +1,4 @@
 use borrow.Author.Needs.{needs}
-use Rattle.cardreading.proofs.FinishLaws as finish
 use Rattle.cardreading.proofs.ReadLaws as laws
 use Rattle.cardreading.proofs.second_pass.Statement.{statement}
 use Rattle.cardreading.proofs.second_pass.Tie as tie
@@ -67,7 +66,7 @@ returns-2 : tie.Need-returns-2
 returns-2 c = search (needs, laws.statement-missing)
 
 sort-requires : tie.Need-sort-requires
-sort-requires c κs = finish.can-sort _ _ _ _ _ _ (laws.ready _ _ _ _ _ _ _ (statements c .all-statements .ensures) (fine c .if1 .left) (due c .if2 .left))
+sort-requires c κs = laws.can-sort _ _ _ _ _ _ (laws.ready _ _ _ _ _ _ _ (statements c .all-statements .ensures) (fine c .if1 .left) (due c .if2 .left))
 
 finished-requires : tie.Need-finished-requires
 finished-requires c κs = laws.ready-sorted _ _ _ _ _ _ _ _ _ _ (statements (sorting c .before) .all-statements .ensures) (fine (sorting c .before) .if1 .left) (due (sorting c .before) .if2 .left) (sorting c .sort .ensures)

@@ -6,7 +6,7 @@ use Rattle.decklines.proofs.equation_line.Tie as tie
 use Rattle.decklines.proofs.equation_line.Reads as reads
 use Rattle.decklines.proofs.equation_line.Lts as lts
 use Rattle.decklines.proofs.equation_read.Reads as equation-read-reads
-use Rattle.lines.proofs.put_node.Reads as put-node-reads
+use Rattle.codes.proofs.put_node.Reads as put-node-reads
 
 -- src/lib.rt:297:9
 equation-read-requires : tie.Need-equation-read-requires

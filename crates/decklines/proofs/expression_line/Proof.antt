@@ -5,7 +5,7 @@ use Rattle.decklines.proofs.expression_line.Tie as tie
 use Rattle.decklines.proofs.expression_line.Reads as reads
 use Rattle.decklines.proofs.expression_line.Lts as lts
 use Rattle.decklines.proofs.no_expression.Reads as no-expression-reads
-use Rattle.lines.proofs.expression.Reads as expression-reads
+use Rattle.codes.proofs.expression.Reads as expression-reads
 
 -- src/lib.rt:120:9
 expression-requires : tie.Need-expression-requires

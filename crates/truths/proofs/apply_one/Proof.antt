@@ -8,8 +8,8 @@ use Rattle.evaluator.proofs.flip.Reads as flip-reads
 use Rattle.evaluator.proofs.lift.Reads as lift-reads
 use Rattle.evaluator.proofs.next.Reads as next-reads
 use Rattle.evaluator.proofs.push.Reads as push-reads
-use Rattle.evaluator.proofs.until.Reads as until-reads
-use Rattle.evaluator.proofs.weak.Reads as weak-reads
+use Rattle.sweeps.proofs.until.Reads as until-reads
+use Rattle.sweeps.proofs.weak.Reads as weak-reads
 
 -- src/lib.rt:45:9
 flip-requires : tie.Need-flip-requires

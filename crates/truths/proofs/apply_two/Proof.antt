@@ -6,8 +6,8 @@ use Rattle.truths.proofs.apply_two.Reads as reads
 use Rattle.truths.proofs.apply_two.Lts as lts
 use Rattle.evaluator.proofs.both.Reads as both-reads
 use Rattle.evaluator.proofs.either.Reads as either-reads
-use Rattle.evaluator.proofs.until.Reads as until-reads
-use Rattle.evaluator.proofs.weak.Reads as weak-reads
+use Rattle.sweeps.proofs.until.Reads as until-reads
+use Rattle.sweeps.proofs.weak.Reads as weak-reads
 
 -- src/lib.rt:67:9
 both-requires : tie.Need-both-requires
