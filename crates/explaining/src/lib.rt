@@ -3,8 +3,6 @@
 ghost use Prim.Native.Nat.{_≤_};
 ghost use Rattle.io.specs.Counts.{Counts};
 use wording::put;
-use wording::showing;
-use wording::spelling;
 use wording::words;
 
 // What was told of the pieces so far.

@@ -118,12 +118,12 @@ fn run_case<'a>(
     if out.len() < covered {
         return false;
     }
-    bundle::clear(&mut out[..covered]);
+    replylines::clear(&mut out[..covered]);
     let r = performed(operation, set, deck, claim, &mut out[..room]);
-    let digest = bundle::digest(&out[..covered]);
-    bundle::print_line(
+    let digest = replylines::digest(&out[..covered]);
+    replylines::print_line(
         STDOUT_FILENO,
-        bundle::Line {
+        replylines::Line {
             operation: operation,
             number: r.number,
             text: r.text,

@@ -1,4 +1,0 @@
-// The program's verdict on a claim.
-fn main() {
-    program::run();
-}

@@ -1,4 +1,0 @@
-// The program's cone of a set.
-fn main() {
-    program::run();
-}

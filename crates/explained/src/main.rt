@@ -1,4 +1,0 @@
-// The program's words on a deck that was refused.
-fn main() {
-    program::run();
-}
