@@ -30,13 +30,14 @@ use Rattle.cards.proofs.NothingDropped.{nothing-dropped, cards-accepted}
 use Rattle.pieces.specs.Reduced.{allFrames, pieceBytes}
 use Rattle.pieces.proofs.Theorems.{pieces-read-back}
 use Rattle.claims.specs.Checked.{verdictAnswer, checked}
-use Rattle.station.specs.declared.DeckReply.{DeckReply}
-use Rattle.station.specs.declared.CountReply.{CountReply}
-use Rattle.station.specs.Promises.{readReply, writeReply, writeBuffer, reduceReply, reduceBuffer, coneReply, ReadsCards, ReadsFrames, WritesCards, WritesFrames, ReducesCards, ReducesFrames, FindsCone, ChecksClaim}
-use Rattle.station.proofs.Numbered.{OfText, Numbered}
+use Rattle.replies.specs.declared.DeckReply.{DeckReply}
+use Rattle.replies.specs.declared.CountReply.{CountReply}
+use Rattle.replies.specs.Replies.{readReply, writeReply, writeBuffer, reduceReply, reduceBuffer, coneReply}
+use Rattle.checking.proofs.Numbered.{Numbered}
+use Rattle.station.specs.Promises.{ReadsCards, ReadsFrames, WritesCards, WritesFrames, ReducesCards, ReducesFrames, FindsCone, ChecksClaim}
 use Rattle.station.proofs.NumberedCards.{cards-numbered}
 use Rattle.station.proofs.NumberedFrames.{deck-numbered}
-use Rattle.station.proofs.ReplyLaws.{zero-names-nothing, read-refused, read-success, read-got, first-bytes, behind-bytes, write-refused, write-success, write-got, reduce-refused, reduce-success, reduce-got, reduce-no-room, cone-refused, cone-success, cone-got, BothRead, both-checked, checked-both, verdict-0, verdict-20, verdict-21, verdict-22}
+use Rattle.station.proofs.ReplyLaws.{zero-names-nothing, read-refused, read-success, read-got, first-bytes, behind-bytes, write-refused, write-success, write-got, reduce-refused, reduce-success, reduce-got, reduce-no-room, cone-refused, cone-success, cone-got, BothRead, both-checked, OfText, checked-both, verdict-0, verdict-20, verdict-21, verdict-22}
 
 -- ==== Demand 1
 -- Every text handed in gets a reply: a deck, a cone, reduced decks, a verdict on a claimed run, or one numbered refusal with its place.

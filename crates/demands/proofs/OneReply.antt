@@ -3,8 +3,8 @@ use mathlib.Core.Path.{_≡_, sym, _∙_}
 use mathlib.Core.List.{List}
 use Prim.Native.Nat.{ℕ}
 use Rattle.decks.specs.declared.Reply.{Reply}
-use Rattle.station.specs.declared.DeckReply.{DeckReply}
-use Rattle.station.specs.declared.CountReply.{CountReply}
+use Rattle.replies.specs.declared.DeckReply.{DeckReply}
+use Rattle.replies.specs.declared.CountReply.{CountReply}
 use Rattle.station.specs.Promises.{ReadsCards, ReadsFrames, WritesCards, WritesFrames, ReducesCards, ReducesFrames, FindsCone, ChecksClaim}
 
 module _ (text : List ℕ) (r s : DeckReply) where

@@ -28,7 +28,8 @@ use Rattle.texts.specs.Texts.{filled}
 use Rattle.cones.specs.Cone.{coneRead}
 use Rattle.pieces.specs.Reduced.{allFrames, reduced, reducedInto}
 use Rattle.claims.specs.Checked.{checked}
-use Rattle.station.specs.Promises.{countReply, WritesCards, ReducesCards, FindsCone, ChecksClaim}
+use Rattle.replies.specs.Replies.{countReply}
+use Rattle.station.specs.Promises.{WritesCards, ReducesCards, FindsCone, ChecksClaim}
 
 -- ---- lines of the table
 

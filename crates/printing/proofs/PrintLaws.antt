@@ -23,9 +23,9 @@ use Rattle.pieces.specs.declared.Reduced.{Reduced}
 use Rattle.pieces.specs.Reduced.{pieceBytes}
 use Rattle.texts.specs.Texts.{Filled, filled}
 use Rattle.claims.specs.Checked.{checked}
-use Rattle.station.specs.declared.CountReply.{CountReply}
-use Rattle.station.specs.Promises.{writeReply, writeBuffer, reduceReply, reduceBuffer, coneReply}
-use Rattle.station.specs.Readable.{Readable}
+use Rattle.replies.specs.declared.CountReply.{CountReply}
+use Rattle.replies.specs.Replies.{writeReply, writeBuffer, reduceReply, reduceBuffer, coneReply}
+use Rattle.replies.specs.Readable.{Readable}
 use Rattle.station.proofs.ReplyLaws.{reduced-as}
 use Rattle.printing.specs.Printed.{refusalKind, refusalFrame, replyFrame, answerFrame, printedAs, printed, printedInto, deckPrintedInto, replied, sizeText, coneLine, conePrinted, conePrintedInto, verdictInto}
 

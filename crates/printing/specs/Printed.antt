@@ -15,8 +15,8 @@ use Rattle.frames.specs.Written.{frame, deckFrames}
 use Rattle.pieces.specs.Reduced.{pieceBytes}
 use Rattle.texts.specs.Texts.{Filled, filled}
 use Rattle.claims.specs.Checked.{checked}
-use Rattle.station.specs.declared.CountReply.{CountReply}
-use Rattle.station.specs.Promises.{coneReply}
+use Rattle.replies.specs.declared.CountReply.{CountReply}
+use Rattle.replies.specs.Replies.{coneReply}
 
 -- ---- the frame FF
 

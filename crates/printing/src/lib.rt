@@ -20,7 +20,7 @@ pub fn put_refusal(number: u64, text: u64, place: u64, out: &mut [u8]) -> usize
 }
 
 // What was written and stands in the buffer's first bytes, or one frame FF.
-fn put_reply(r: station::CountReply, bytes: u64, out: &mut [u8]) -> usize
+fn put_reply(r: replies::CountReply, bytes: u64, out: &mut [u8]) -> usize
     ensures { λ n. ⌜ (n ≡ replied r bytes (now (out .entry)) .report .bytes) × (now (out .exit) ≡ replied r bytes (now (out .entry)) .buffer) ⌝ }
 {
     if r.number == 0 {

@@ -23,11 +23,11 @@ const CHECK: u64 = 107;
 const CLOSE: u64 = 46;
 
 // A deck as the bundle counts it: its set, and its initial states and equations.
-fn counted(r: station::DeckReply) -> station::CountReply {
+fn counted(r: replies::DeckReply) -> replies::CountReply {
     let d = r.deck;
     let initials = d.initials as u64;
     let equations = d.equations as u64;
-    station::CountReply {
+    replies::CountReply {
         number: r.number,
         text: r.text,
         place: r.place,
@@ -36,17 +36,17 @@ fn counted(r: station::DeckReply) -> station::CountReply {
     }
 }
 
-fn read_cards(text: &[u8]) -> station::CountReply {
+fn read_cards(text: &[u8]) -> replies::CountReply {
     counted(station::read_cards(text))
 }
 
-fn read_frames(text: &[u8]) -> station::CountReply {
+fn read_frames(text: &[u8]) -> replies::CountReply {
     counted(station::read_frames(text))
 }
 
-fn check<'a>(deck: &'a [u8], claim: &'a [u8]) -> station::CountReply {
+fn check<'a>(deck: &'a [u8], claim: &'a [u8]) -> replies::CountReply {
     let r = station::check(deck, claim);
-    station::CountReply {
+    replies::CountReply {
         number: r.number,
         text: r.text,
         place: r.place,
@@ -66,7 +66,7 @@ fn is_operation(code: u64) -> bool {
 }
 
 // What an operation on a text without a lent buffer replies.
-fn asked<'a>(operation: u64, set: u64, deck: &'a [u8], claim: &'a [u8]) -> station::CountReply {
+fn asked<'a>(operation: u64, set: u64, deck: &'a [u8], claim: &'a [u8]) -> replies::CountReply {
     if operation == READ_CARDS {
         return read_cards(deck);
     }
@@ -86,7 +86,7 @@ fn performed<'a>(
     deck: &'a [u8],
     claim: &'a [u8],
     out: &mut [u8],
-) -> station::CountReply {
+) -> replies::CountReply {
     if operation == WRITE_CARDS {
         return station::write_cards(deck, out);
     }

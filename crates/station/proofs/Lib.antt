@@ -1,4 +1,4 @@
-pub mod Numbered
+pub mod NumberedDecks
 pub mod NumberedCards
 pub mod NumberedFrames
 pub mod OperationLaws

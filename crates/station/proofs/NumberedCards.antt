@@ -20,8 +20,9 @@ use Rattle.cards.specs.Statement.{Statement, inked, fieldOf, Hand, Nothing, Hel
 use Rattle.cards.specs.Grammar.{Counted, Number, NoNumber, readNumber, readExpr}
 use Rattle.cards.specs.Typed.{Typed, firstVars, deckOf}
 use Rattle.cards.specs.Read.{behind, Due, DueVars, DueInit, DueAny, DueEquation, DueEnd, DueNone, Sofar, begun, wholeExpr, wholeNumber, varsStatement, readBinary, initStatement, withEquation, equationStatement, propStatement, endStatement, onWord, equationOrProp, dueStatement, statementRead, cardsEnd, readCards}
-use Rattle.station.proofs.Numbered.{farthest, Names, Numbered, refuse-numbered, afterwards-numbered, text-numbered, each-numbered, walk-numbered, complete-numbered}
-use Rattle.station.proofs.NumberedFrames.{lines-few}
+use Rattle.checking.proofs.Numbered.{farthest, Names, Numbered, refuse-numbered, afterwards-numbered, text-numbered, walk-numbered}
+use Rattle.checking.proofs.NumberedClaims.{lines-few}
+use Rattle.station.proofs.NumberedDecks.{each-numbered, complete-numbered}
 
 -- ---- how many cards there are
 

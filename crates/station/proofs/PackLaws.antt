@@ -30,12 +30,13 @@ use Rattle.cones.proofs.Answers.{read-cone, read-outside}
 use Rattle.pieces.specs.declared.Reduced.{Reduced}
 use Rattle.pieces.specs.Reduced.{pieceBytes}
 use Rattle.claims.specs.Checked.{verdictAnswer, claimChecked, deckChecked, checked}
-use Rattle.station.specs.declared.CountReply.{CountReply}
-use Rattle.station.specs.Promises.{writeReply, reduceReply, coneReply}
-use Rattle.station.specs.Exported.{packed, Packs, CountsPack}
-use Rattle.station.proofs.Numbered.{Names, Numbered, fault}
+use Rattle.replies.specs.declared.CountReply.{CountReply}
+use Rattle.replies.specs.Replies.{writeReply, reduceReply, coneReply}
+use Rattle.checking.proofs.Numbered.{Names, Numbered, fault}
+use Rattle.checking.proofs.NumberedClaims.{claim-numbered}
+use Rattle.exports.specs.Exported.{packed, Packs, CountsPack}
 use Rattle.station.proofs.NumberedCards.{cards-numbered}
-use Rattle.station.proofs.NumberedFrames.{deck-numbered, claim-numbered}
+use Rattle.station.proofs.NumberedFrames.{deck-numbered}
 use Rattle.station.proofs.ReplyLaws.{filled-as, reduced-as}
 use Rattle.station.proofs.Sizes.{deck-most, pieces-most}
 

@@ -29,9 +29,10 @@ use Rattle.cones.proofs.Answers.{read-cone, read-outside}
 use Rattle.claims.specs.Checked.{verdictAnswer, claimChecked, deckChecked, checked}
 use Rattle.pieces.specs.declared.Reduced.{Reduced}
 use Rattle.pieces.specs.Reduced.{pieceBytes, reduced, reducedInto}
-use Rattle.station.specs.Promises.{readReply, writeReply, writeBuffer, reduceReply, reduceBuffer, coneReply}
-use Rattle.station.proofs.Numbered.{OfText, Numbered, fault}
-use Rattle.station.proofs.NumberedFrames.{deck-numbered, claim-numbered}
+use Rattle.replies.specs.Replies.{readReply, writeReply, writeBuffer, reduceReply, reduceBuffer, coneReply}
+use Rattle.checking.proofs.Numbered.{Numbered, fault}
+use Rattle.checking.proofs.NumberedClaims.{claim-numbered}
+use Rattle.station.proofs.NumberedFrames.{deck-numbered}
 
 -- ---- answers
 
@@ -223,6 +224,10 @@ BothRead deck claim d m = (readDeck deck ≡ Got d) × (readClaim (d .vars) clai
 pub both-checked : (deck claim : List ℕ) (d : Deck) (m : Claim) → BothRead deck claim d m → checked deck claim ≡ verdictAnswer (verdict d m)
 unfolding checked
 both-checked deck claim d m (e, f) = ap (λ (o : Outcome Deck). deckChecked o claim) e ∙ ap (claimChecked d) f
+
+-- The numbers that name a fault of a text.
+abbrev pub OfText : ℕ → Type 0
+OfText n = (1 ≤ n) × (n ≤ 16)
 
 -- An answer without a number of a text's fault comes from a verdict.
 pub checked-both : (deck claim : List ℕ) → (OfText (replyOf (checked deck claim) .number) → ⊥)

@@ -18,9 +18,10 @@ use Rattle.pieces.specs.Reduced.{allFrames, pieceBytes}
 use Rattle.pieces.proofs.All.{count-few}
 use Rattle.cards.specs.Read.{readCards}
 use Rattle.cards.proofs.NothingDropped.{cards-accepted}
-use Rattle.station.specs.declared.CountReply.{CountReply}
-use Rattle.station.specs.Promises.{writeReply, reduceReply, WritesCards, WritesFrames, ReducesCards, ReducesFrames}
-use Rattle.station.proofs.Numbered.{Numbered}
+use Rattle.replies.specs.declared.CountReply.{CountReply}
+use Rattle.replies.specs.Replies.{writeReply, reduceReply}
+use Rattle.checking.proofs.Numbered.{Numbered}
+use Rattle.station.specs.Promises.{WritesCards, WritesFrames, ReducesCards, ReducesFrames}
 use Rattle.station.proofs.NumberedCards.{cards-numbered}
 use Rattle.station.proofs.NumberedFrames.{deck-numbered}
 use Rattle.station.proofs.ReplyLaws.{write-no-room, reduce-no-room}

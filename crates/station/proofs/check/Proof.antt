@@ -6,7 +6,7 @@ use Rattle.station.proofs.check.Tie as tie
 use Rattle.station.proofs.check.Reads as reads
 use Rattle.station.proofs.check.Lts as lts
 use Rattle.reading.proofs.read_deck.Reads as read-deck-reads
-use Rattle.station.proofs.checked.Reads as checked-reads
+use Rattle.checking.proofs.checked.Reads as checked-reads
 
 -- src/lib.rt:451:9
 slice-aggregate-read-deck : tie.Need-slice-aggregate-read-deck

@@ -5,7 +5,7 @@ use Rattle.station.proofs.cone.Tie as tie
 use Rattle.station.proofs.cone.Reads as reads
 use Rattle.station.proofs.cone.Lts as lts
 use Rattle.reading.proofs.read_deck.Reads as read-deck-reads
-use Rattle.station.proofs.closed.Reads as closed-reads
+use Rattle.replies.proofs.closed.Reads as closed-reads
 
 -- src/lib.rt:431:9
 slice-aggregate-read-deck : tie.Need-slice-aggregate-read-deck

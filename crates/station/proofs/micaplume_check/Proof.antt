@@ -6,7 +6,7 @@ use Rattle.station.proofs.micaplume_check.Lts as lts
 use Rattle.station.proofs.OperationLaws as laws
 use Rattle.station.proofs.PackLaws as packs
 use Rattle.station.proofs.check.Reads as check-reads
-use Rattle.station.proofs.packed.Reads as packed-reads
+use Rattle.exports.proofs.packed.Reads as packed-reads
 
 -- src/lib.rt:246:9
 check-requires : tie.Need-check-requires

@@ -6,7 +6,7 @@ use Rattle.station.proofs.micaplume_cone.Lts as lts
 use Rattle.station.proofs.OperationLaws as laws
 use Rattle.station.proofs.PackLaws as packs
 use Rattle.station.proofs.cone.Reads as cone-reads
-use Rattle.station.proofs.export.Reads as export-reads
+use Rattle.exports.proofs.export.Reads as export-reads
 
 -- src/lib.rt:238:12
 cone-requires : tie.Need-cone-requires

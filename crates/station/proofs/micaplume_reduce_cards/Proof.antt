@@ -5,7 +5,7 @@ use Rattle.station.proofs.micaplume_reduce_cards.Reads as reads
 use Rattle.station.proofs.micaplume_reduce_cards.Lts as lts
 use Rattle.station.proofs.OperationLaws as laws
 use Rattle.station.proofs.PackLaws as packs
-use Rattle.station.proofs.export.Reads as export-reads
+use Rattle.exports.proofs.export.Reads as export-reads
 use Rattle.station.proofs.reduce_cards.Reads as reduce-cards-reads
 
 -- src/lib.rt:260:12

@@ -5,7 +5,7 @@ use Rattle.station.proofs.micaplume_reduce_frames.Reads as reads
 use Rattle.station.proofs.micaplume_reduce_frames.Lts as lts
 use Rattle.station.proofs.OperationLaws as laws
 use Rattle.station.proofs.PackLaws as packs
-use Rattle.station.proofs.export.Reads as export-reads
+use Rattle.exports.proofs.export.Reads as export-reads
 use Rattle.station.proofs.reduce_frames.Reads as reduce-frames-reads
 
 -- src/lib.rt:230:12

@@ -5,7 +5,7 @@ use Rattle.station.proofs.micaplume_write_frames.Reads as reads
 use Rattle.station.proofs.micaplume_write_frames.Lts as lts
 use Rattle.station.proofs.OperationLaws as laws
 use Rattle.station.proofs.PackLaws as packs
-use Rattle.station.proofs.export.Reads as export-reads
+use Rattle.exports.proofs.export.Reads as export-reads
 use Rattle.station.proofs.write_frames.Reads as write-frames-reads
 
 -- src/lib.rt:222:12

@@ -5,7 +5,7 @@ use Rattle.station.proofs.read_cards.Tie as tie
 use Rattle.station.proofs.read_cards.Reads as reads
 use Rattle.station.proofs.read_cards.Lts as lts
 use Rattle.cardreading.proofs.read_cards.Reads as read-cards-reads
-use Rattle.station.proofs.replied.Reads as replied-reads
+use Rattle.replies.proofs.replied.Reads as replied-reads
 
 -- src/lib.rt:311:9
 slice-aggregate-read-cards : tie.Need-slice-aggregate-read-cards

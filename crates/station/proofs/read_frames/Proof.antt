@@ -5,7 +5,7 @@ use Rattle.station.proofs.read_frames.Tie as tie
 use Rattle.station.proofs.read_frames.Reads as reads
 use Rattle.station.proofs.read_frames.Lts as lts
 use Rattle.reading.proofs.read_deck.Reads as read-deck-reads
-use Rattle.station.proofs.replied.Reads as replied-reads
+use Rattle.replies.proofs.replied.Reads as replied-reads
 
 -- src/lib.rt:331:9
 slice-aggregate-read-deck : tie.Need-slice-aggregate-read-deck

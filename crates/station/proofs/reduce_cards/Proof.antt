@@ -5,7 +5,7 @@ use Rattle.station.proofs.reduce_cards.Tie as tie
 use Rattle.station.proofs.reduce_cards.Reads as reads
 use Rattle.station.proofs.reduce_cards.Lts as lts
 use Rattle.cardreading.proofs.read_cards.Reads as read-cards-reads
-use Rattle.station.proofs.reduced.Reads as reduced-reads
+use Rattle.replies.proofs.reduced.Reads as reduced-reads
 
 -- src/lib.rt:391:9
 slice-aggregate-read-cards : tie.Need-slice-aggregate-read-cards

@@ -5,7 +5,7 @@ use Rattle.station.proofs.reduce_frames.Tie as tie
 use Rattle.station.proofs.reduce_frames.Reads as reads
 use Rattle.station.proofs.reduce_frames.Lts as lts
 use Rattle.reading.proofs.read_deck.Reads as read-deck-reads
-use Rattle.station.proofs.reduced.Reads as reduced-reads
+use Rattle.replies.proofs.reduced.Reads as reduced-reads
 
 -- src/lib.rt:411:9
 slice-aggregate-read-deck : tie.Need-slice-aggregate-read-deck

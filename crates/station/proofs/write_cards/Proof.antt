@@ -5,7 +5,7 @@ use Rattle.station.proofs.write_cards.Tie as tie
 use Rattle.station.proofs.write_cards.Reads as reads
 use Rattle.station.proofs.write_cards.Lts as lts
 use Rattle.cardreading.proofs.read_cards.Reads as read-cards-reads
-use Rattle.station.proofs.written.Reads as written-reads
+use Rattle.replies.proofs.written.Reads as written-reads
 
 -- src/lib.rt:351:9
 slice-aggregate-read-cards : tie.Need-slice-aggregate-read-cards

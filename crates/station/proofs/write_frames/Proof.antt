@@ -5,7 +5,7 @@ use Rattle.station.proofs.write_frames.Tie as tie
 use Rattle.station.proofs.write_frames.Reads as reads
 use Rattle.station.proofs.write_frames.Lts as lts
 use Rattle.reading.proofs.read_deck.Reads as read-deck-reads
-use Rattle.station.proofs.written.Reads as written-reads
+use Rattle.replies.proofs.written.Reads as written-reads
 
 -- src/lib.rt:371:9
 slice-aggregate-read-deck : tie.Need-slice-aggregate-read-deck
