@@ -65,7 +65,7 @@ fn refusal(r: decks::Reply) -> CountReply
     }
 }
 
-// What was read, replied: its deck, or the deck of zeros beside a refusal.
+// The reply to what was read: its deck, or the deck of zeros beside a refusal.
 pub fn replied(
     read: decks::DeckRead,
     inits: [u64; decks::INITIALS * decks::WORDS],
@@ -95,7 +95,7 @@ pub fn replied(
     deck_reply(answer, d)
 }
 
-// What was read, written.
+// Writes the deck that was read into out, or gives its refusal.
 pub fn written<'a>(
     read: decks::DeckRead,
     inits: &'a [u64],
@@ -118,7 +118,7 @@ pub fn written<'a>(
     count_reply(answer, w.bytes as u64, 0)
 }
 
-// The cone of s in what was read.
+// Gives the cone of s in the deck that was read, or its refusal.
 pub fn closed<'a>(
     read: decks::DeckRead,
     lefts: &'a [u16],
@@ -139,7 +139,7 @@ pub fn closed<'a>(
     count_reply(answer, c.set, c.size as u64)
 }
 
-// What was read, reduced.
+// Writes all pieces of the deck that was read into out, or gives its refusal.
 pub fn reduced<'a>(
     read: decks::DeckRead,
     inits: &'a [u64],
