@@ -21,7 +21,7 @@ void chain_deck(struct text *cards, unsigned variables);
 /* Comment cards behind a deck, up to exactly so many bytes. */
 void fill_with_comments(struct text *cards, size_t bytes);
 
-/* The claim of the paper on its first piece, and a claim of so many states on
+/* The worked claim on the first piece (RULES 9.2), and a claim of so many states on
    the deck at all limits, half of them in the loop; as frames. */
 void worked_claim(struct text *claim);
 void limits_claim(struct text *claim, unsigned states);

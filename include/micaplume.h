@@ -1,11 +1,11 @@
-/* Micaplume's operations on texts, for C. Cards, frames, numbers and places are those of the paper of exact rules.
+/* Micaplume's operations on texts, for C. Cards, frames, numbers and places are those of docs/RULES.md.
  *
  * What a call is lent:
  *   text, deck, claim   a text to read, by its first byte and its length. Any bytes will do; no byte 0 is needed behind them. A deck is frames
  *                       unless the name of the call says cards; a claim is frames.
  *   out                 a buffer to write, by its first byte and its length. On success the first bytes are the result, as many as are counted, and
  *                       the bytes beyond stay as they were. On a refusal no byte changes.
- *   counts              where the two counts that are returned stand. It is not lent memory in the paper's sense: every call stores both, and
+ *   counts              where the two counts that are returned stand. It is not a lent buffer (RULES 1.4): every call stores both, and
  *                       stores zeros on a refusal.
  *
  * What the caller owes. No call can test it, and none does:
@@ -17,7 +17,7 @@
  * A call uses no heap, no files and nothing that outlives it, so calls may run side by side. Have 128 KiB of stack free; the most measured was 34.
  *
  * Every call returns a word: number + 256 * text + 65,536 * place.
- *   number   0 for success, 1 to 22 for the refusal of that number in the paper's table;
+ *   number   0 for success, 1 to 22 for the refusal of that number in RULES 7.2;
  *   text     the text at fault: 1 the deck, 2 the claim, 0 neither;
  *   place    the card, line, variable or step, or the bytes needed, as the table says. On success text and place are 0, so the word is 0.
  */

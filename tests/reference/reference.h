@@ -1,5 +1,5 @@
-/* A second opinion on decks, cones, pieces and claims, written from the paper
-   and from nothing else. It uses no heap and keeps nothing between calls.
+/* A second opinion on decks, cones, pieces and claims, written from the
+   rules (docs/RULES.md has them) and from nothing else. It uses no heap and keeps nothing between calls.
 
    Every operation answers number + 256 * text + 65536 * place; 0 is success.
    On a refusal the counts are zero and no byte of `out` changes; on success

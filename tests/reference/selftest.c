@@ -1,5 +1,5 @@
-/* The reference against the paper's own lines, then against each open point
-   of the paper with the reading taken. Prints the lines that fail. */
+/* The reference against the lines of docs/RULES.md, 9, then against each point
+   of the rules that is easily misread. Prints the lines that fail. */
 #include "reference.h"
 
 #include <stdbool.h>

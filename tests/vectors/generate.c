@@ -1353,7 +1353,7 @@ static void check_lines(const char *deck, const char *words)
 
 #define STATE(s) "12000000000000000" s "\n"
 
-/* The paper's own deck and lines. */
+/* The worked deck and its lines (docs/RULES.md, 9). */
 static void worked_deck(void)
 {
     static const char deck[] =
@@ -1409,7 +1409,7 @@ static void emit_small(const char *equation, const char *property)
     emit_cards(deck);
 }
 
-/* The paper's lines about cards, and the decks of the incident: V12 across
+/* The lines of RULES 9.5 about cards, and the decks of the incident: V12 across
    column 72, a tab before it, and V12 on a card that continues. */
 static void named_lines(void)
 {

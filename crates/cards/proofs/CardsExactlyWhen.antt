@@ -137,6 +137,6 @@ walk-kinds (c ∷ cs) n o p e =
     let w = walk-first cardInForm n c cs o p e in
     walk-got opened n (kindOf c) (map kindOf cs) o (w .0) (card-formed n c o (w .0) (w .1) .1) ∙ walk-kinds cs (suc n) (w .0) p (w .2)
 
--- The cards of a text are in form exactly when every card is formed as document 01 asks, and their kinds open, continue and close statements as it allows.
+-- The cards of a text are in form exactly when every card is formed as RULES 2.1 to 2.3 ask, and their kinds open, continue and close statements as it allows.
 pub in-form-exactly : (cards : List (List ℕ)) (p : Open) → (inForm cards ≡ Got p) ↔ (Each Formed cards × (walk opened 1 (map kindOf cards) Shut ≡ Got p))
 in-form-exactly cards p = (λ e. (cards-formed 1 cards Shut p e, walk-kinds cards 1 Shut p e), λ (fs, e). kinds-walk cards 1 Shut p fs e)

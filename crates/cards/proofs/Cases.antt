@@ -1,4 +1,4 @@
--- Computed cases: the worked deck of document 01, and texts of cards for each refusal, with the answers that they get.
+-- Computed cases: the worked deck of RULES 9.1, and texts of cards for each refusal, with the answers that they get.
 use mathlib.Core.Path.{_≡_, refl}
 use mathlib.Core.Bool.{true, false}
 use mathlib.Core.List.{List, [], _∷_, _++_, map}

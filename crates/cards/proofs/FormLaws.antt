@@ -1,4 +1,4 @@
--- Laws of cards in form: every card is formed as document 01 asks, and the statements together hold what columns 7 to 72 hold.
+-- Laws of cards in form: every card is formed as RULES 2.1 to 2.3 ask, and the statements together hold what columns 7 to 72 hold.
 use mathlib.Core.Path.{_≡_, refl, sym, ap, _∙_, subst}
 use mathlib.Core.Logic.{_⊎_, inl, inr, ⊎-elim}
 use mathlib.Core.Bool.{Bool, true, false, not, _&&_, _||_}
@@ -53,7 +53,7 @@ number-judged : (n : ℕ) (card : List ℕ) (o : Open) → every printable card 
 unfolding cardInForm
 number-judged n card o b w c s e = simp (b, le-ltb cardColumns (length card) w, c, s, e)
 
--- A card that passes is formed as document 01 asks, and opens, continues or closes as its kind says.
+-- A card that passes is formed as RULES 2.1 to 2.3 ask, and opens, continues or closes as its kind says.
 card-given : (n : ℕ) (card : List ℕ) (o : Open) → Given (λ (q : Open). Formed card × (opened n (kindOf card) o ≡ Got q)) (cardInForm n card o)
 unfolding cardInForm
 card-given n card o =

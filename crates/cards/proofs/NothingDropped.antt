@@ -97,7 +97,7 @@ nothing-dropped text d = (got-given (Says text) (readCards text) d (read-says te
 pub typed-once : (ss : List Statement) (t u : Typed) → Fits base t → Fits base u → map (λ (s : Statement). inked (s .field)) ss ≡ spelt t → map (λ (s : Statement). inked (s .field)) ss ≡ spelt u → t ≡ u
 typed-once ss t u f g p q = let e : sofar DueNone t ≡ sofar DueNone u = got-eq (sym (spelt-walk t f 1 ss p) ∙ spelt-walk u g 1 ss q) in ap (λ (s : Sofar). s .typed) e
 
--- Of an accepted text, card by card and by column numbers alone: the characters of columns 7 to 72 that are no blanks, on all cards that are no comments, are the spelling of what was typed, one statement behind the other; and every card holds in its other columns only what document 01 allows.
+-- Of an accepted text, card by card and by column numbers alone: the characters of columns 7 to 72 that are no blanks, on all cards that are no comments, are the spelling of what was typed, one statement behind the other; and every card holds in its other columns only what RULES 2.2 allows.
 pub nothing-dropped-by-columns : (text : List ℕ) (cards : List (List ℕ)) (d : Deck)
     → CardsAre text cards
     → readCards text ≡ Got d

@@ -1,4 +1,4 @@
--- Cards: the cards of a text, their columns and kinds, and the faults 2 to 7, card by card.
+-- Cards: the cards of a text, their columns and kinds (RULES 2.1 to 2.3), and the faults 2 to 7, card by card.
 use mathlib.Core.Bool.{Bool, true, false, not, _&&_, _||_}
 use mathlib.Core.List.{List, [], _∷_, _++_}
 use Prim.Native.Nat.{ℕ, suc, _+_, _-_}

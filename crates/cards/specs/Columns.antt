@@ -42,7 +42,7 @@ unfoldable pub together : List (List ℕ) → List ℕ
 together [] = []
 together (l ∷ ls) = l ++ together ls
 
--- What document 01 asks of columns 1 to 5 and 73 to 80 of a card that is no comment.
+-- What RULES 2.2 asks of columns 1 to 5 and 73 to 80 of a card that is no comment.
 pub record Margins (card : List ℕ) : Type 0 where
   pub start-blank : (c : ℕ) → 1 ≤ c → c ≤ 5 → punched card c ≡ character " "
   pub end-numbered : ((c : ℕ) → 73 ≤ c → c ≤ 80 → punched card c ≡ character " ") ⊎ ((c : ℕ) → 73 ≤ c → c ≤ 80 → (character "0" ≤ punched card c) × (punched card c ≤ character "9"))

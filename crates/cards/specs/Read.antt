@@ -1,4 +1,4 @@
--- Cards read: from the bytes of a text to a deck, or to one refusal, in document 01's order.
+-- Cards read: from the bytes of a text to a deck, or to one refusal, in the order of RULES 7.3. The statements that are due are those of RULES 2.6.
 use mathlib.Core.Bool.{Bool, true, false, not, _||_}
 use mathlib.Core.List.{List, [], _∷_, _++_}
 use mathlib.Core.Option.{Option, none, some}

@@ -1,4 +1,4 @@
--- Statements: the statement fields of an opening card and the cards that continue it, one after the other.
+-- Statements: the statement fields of an opening card and the cards that continue it, one after the other (RULES 2.4).
 use mathlib.Core.Bool.{Bool, true, false, not}
 use mathlib.Core.List.{List, [], _∷_, _++_}
 use Prim.Native.Nat.{ℕ, suc}

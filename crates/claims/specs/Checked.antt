@@ -1,4 +1,4 @@
--- A claim checked against a deck, from their texts: the deck's refusals, then the claim's, then 20, 21, 22, or accepted.
+-- A claim checked against a deck, from their texts: the deck's refusals, then the claim's, then 20, 21, 22, or accepted (RULES 7.5).
 use mathlib.Core.List.{List}
 use Prim.Native.Nat.{ℕ}
 use Rattle.logic.specs.Decks.{Deck}

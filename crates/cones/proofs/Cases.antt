@@ -1,4 +1,4 @@
--- Computed cases: the cones of document 01's worked deck, its table, and refusals.
+-- Computed cases: the cones of the worked deck (RULES 9.3), its table, and refusals.
 use mathlib.Core.Path.{_≡_, refl}
 use mathlib.Core.List.{[], _∷_}
 use lib.ListN.{take}

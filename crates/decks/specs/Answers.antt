@@ -1,4 +1,4 @@
--- Answers: the paper's number, the text at fault (1 deck, 2 claim, 0 neither) and the place of each case.
+-- Answers: the number, the text at fault (1 deck, 2 claim, 0 neither) and the place of each case (RULES 7.2).
 use mathlib.Core.Bool.{Bool, true, false}
 use Prim.Native.Nat.{ℕ}
 use Rattle.decks.specs.declared.Answer.{Answer}
@@ -36,7 +36,7 @@ pub data Outcome (A : Type 0) : Type 0 where
   Got : A → Outcome A
   Refused : Answer → Outcome A
 
--- One refusal of a list of them in document 01's order: given where the test says so, and otherwise the rest decides.
+-- One refusal of a list of them in the order of RULES 7.3 to 7.5: given where the test says so, and otherwise the rest decides.
 abbrev pub refuse : {A : Type 0} → Bool → Answer → Outcome A → Outcome A
 refuse true a r = Refused a
 refuse false a r = r

@@ -8,7 +8,7 @@ ghost use Rattle.decks.specs.Answers.{Refused, replyOf};
 ghost use Rattle.decks.specs.Stored.{blank, sizesOf};
 ghost use Rattle.decks.specs.Lent.{deckRead};
 
-// Document 01's sizes.
+// The sizes of RULES 3.
 pub const TEXT: usize = 64800;
 
 pub const VARIABLES: usize = 64;
@@ -42,7 +42,7 @@ pub struct Deck {
     pub size: usize,
 }
 
-// The answers of document 01's table, each with what its reply needs beside the number.
+// The answers of the table of RULES 7.2, each with what its reply needs beside the number.
 pub enum Answer {
     Fine,
     TooLong(u64),
@@ -172,7 +172,7 @@ pub fn stands_in(states: &[u64], count: usize, s: u64) -> bool
     false
 }
 
-// The paper's number, text and place of an answer.
+// Number, text and place of an answer.
 pub fn reply_of(a: Answer) -> Reply
     ensures { λ r. ⌜ r ≡ replyOf a ⌝ }
 {

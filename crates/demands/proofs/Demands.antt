@@ -160,7 +160,7 @@ success-returns-deck-reads-frames text r p z =
     (d, deck-read-accepted text d e, ap (λ (x : DeckReply). x .deck) (p ∙ ap readReply e))
 
 -- ==== Demand 2
--- The card reading follows the FORTRAN 77 fixed form as document 01 narrows it. Splitting, cone, reduced deck and the truth of a property on a run are those of document 003.
+-- The card reading follows the FORTRAN 77 fixed form as RULES 2 narrows it. Splitting, cone, reduced deck and the truth of a property on a run are those of Ray, Matthews and Tuttle (RULES 4, 5).
 -- Frames written and read again give the same deck, and frames read and written again give the same bytes.
 
 -- Cards are accepted exactly when the text is no longer than allowed, every card is in form, and the statements, without their blanks, are the spelling of something typed that keeps the limits; the deck returned is what was typed. So no character is dropped.

@@ -1,4 +1,4 @@
--- Document 01's "One deck to the end": every line marked (P), over the bytes of the texts.
+-- The worked deck with its claims and cones, and the decks without variables (RULES 9.1 to 9.4): one table, over the bytes of the texts.
 use mathlib.Core.Path.{refl}
 use mathlib.Core.List.{List, [], _∷_, _++_, map}
 use Prim.Native.Nat.{ℕ, _+_, _-_}

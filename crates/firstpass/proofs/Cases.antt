@@ -1,4 +1,4 @@
--- The first pass over small texts, computed: each of 2 to 7, their order, and the open points of document 01 about one card.
+-- The first pass over small texts, computed: each of 2 to 7, their order, and the points of RULES 2.1 to 2.4 that are easily misread.
 use mathlib.Core.Path.{_≡_, refl}
 use mathlib.Core.List.{List, [], _∷_, _++_}
 use Prim.Native.Nat.{ℕ, _-_}

@@ -9,7 +9,7 @@ ghost use Rattle.firstpass.specs.Passed.{between, free, kindIs, openOf, 
 use decks::Answer;
 use ends::line_end;
 
-// Document 01's columns: of a card, where the statement field begins and ends; and the continuations that a statement may have.
+// The columns of a card (RULES 2.2): how many it has, where the statement field begins and ends; and the continuations that a statement may have.
 pub const COLUMNS: usize = 80;
 
 pub const FIELD_START: usize = 7;

@@ -1,4 +1,4 @@
--- Computed cases: document 01's first piece, and which refusal each text meets first.
+-- Computed cases: the first piece of the worked deck (RULES 9.1), and which refusal each text meets first.
 use mathlib.Core.Path.{_≡_, refl}
 use mathlib.Core.Bool.{false}
 use mathlib.Core.List.{List, [], _∷_, _++_}

@@ -1,4 +1,4 @@
--- Frames read: from the bytes of a text to a deck or a claim, or to one refusal, in document 01's order.
+-- Frames read: from the bytes of a text to a deck or a claim, or to one refusal, in the order of RULES 7.4. The forms are those of RULES 6.
 use mathlib.Core.Bool.{Bool, true, false, not, _||_}
 use mathlib.Core.List.{List, [], _∷_, _++_}
 use mathlib.Core.Option.{Option, none, some}

@@ -1,4 +1,4 @@
--- Decks and claims written as frames: one frame a line, upper-case hexadecimal pairs, each line ended by byte 10.
+-- Decks and claims written as frames: one frame a line, upper-case hexadecimal pairs, each line ended by byte 10 (RULES 6).
 use mathlib.Core.Bool.{Bool, true, false}
 use mathlib.Core.List.{List, [], _∷_, _++_}
 use Prim.Native.Nat.{ℕ, _+_, _-_}

@@ -1,4 +1,4 @@
--- Computed cases: the pieces of document 01's worked deck, verdicts, cones and conjuncts that tell the definitions from wrong ones.
+-- Computed cases: the pieces of the worked deck (RULES 9.1), verdicts, cones and conjuncts that tell the definitions from wrong ones.
 use mathlib.Core.Path.{_≡_, refl}
 use mathlib.Core.Bool.{true, false}
 use mathlib.Core.List.{List, [], _∷_}
@@ -16,7 +16,7 @@ use Rattle.logic.specs.Verdicts.{Verdict, Breaking, NotInitial, NoStep, 
 abbrev is : ℕ → Expr → Equation
 is v e = record { left = v; right = e }
 
--- The deck of document 01's worked example.
+-- The worked deck (RULES 9.1).
 abbrev pub worked : Deck
 worked =
     record {

@@ -1,4 +1,4 @@
--- The worked-out verdict is the meaning: accepted, 20, 21 and 22 exactly when document 01 says so.
+-- The worked-out verdict is the meaning: accepted, 20, 21 and 22 exactly when RULES 7.2 says so.
 use mathlib.Core.Path.{_≡_, refl, sym, ap, _∙_, subst}
 use mathlib.Core.Logic.{_⊎_, inl, inr, ⊎-elim, _↔_, Iff·rfl, Iff·symm, Iff·trans, by-cases}
 use mathlib.Core.Bool.{Bool, true, false}

@@ -1,4 +1,4 @@
--- The cone of a set: the least set that holds it and, with each variable, all variables written in any of its equations.
+-- The cone of a set: the least set that holds it and, with each variable, all variables written in any of its equations (RULES 5.1).
 use mathlib.Core.Path.{_≡_}
 use mathlib.Core.Bool.{Bool, true, false}
 use mathlib.Core.List.{List, [], _∷_}

@@ -1,4 +1,4 @@
--- A deck is its variables, its initial states, its equations and its property. An accepted deck keeps document 01's rules and limits.
+-- A deck is its variables, its initial states, its equations and its property. An accepted deck keeps the rules and limits of RULES 3 and 6.2.
 use mathlib.Core.Path.{_≡_}
 use mathlib.Core.List.{List, [], _∷_}
 use Prim.Native.Nat.{ℕ, _+_, _^_, _<_, _≤_}
@@ -32,7 +32,7 @@ pub record Limits : Type 0 where
   -- states of a claim
   pub states : ℕ
 
--- Document 01's sizes.
+-- The sizes of RULES 3.
 abbrev pub base : Limits
 base = record { text = 64800; variables = 64; initials = 64; equations = 256; equationNodes = 2048; propertyNodes = 128; levels = 32; states = 1024 }
 

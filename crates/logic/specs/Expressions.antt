@@ -1,4 +1,4 @@
--- Expressions. An expression is `0`, `1`, a variable, one of `~ X F G` before an expression, or two expressions joined by one of `& + U W`.
+-- Expressions. An expression is `0`, `1`, a variable, one of `~ X F G` before an expression, or two expressions joined by one of `& + U W` (RULES 2.8).
 use mathlib.Core.Bool.{Bool, true, false}
 use mathlib.Core.List.{List, [], _∷_, _++_}
 use Prim.Native.Nat.{ℕ, _+_, _-_, _/_, _%_, _<_, min, max}

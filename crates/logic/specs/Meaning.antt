@@ -1,4 +1,4 @@
--- What a property says of a run, and which runs a deck has.
+-- What a property says of a run, and which runs a deck has (RULES 4).
 use mathlib.Core.Path.{_≡_}
 use mathlib.Core.Logic.{_⊎_}
 use mathlib.Core.Bool.{Bool, true, false}

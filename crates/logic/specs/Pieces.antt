@@ -1,4 +1,4 @@
--- Splitting the property, and the reduced decks.
+-- Splitting the property, and the reduced decks (RULES 5.2, 5.3).
 use mathlib.Core.List.{List, [], _∷_, _++_, map}
 use Prim.Native.Nat.{ℕ}
 use Rattle.lists.specs.Lists.{keep, firsts}

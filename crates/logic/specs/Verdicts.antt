@@ -1,4 +1,4 @@
--- The verdict on a claimed run, worked out.
+-- The verdict on a claimed run (RULES 4.5, 7.5), worked out.
 use mathlib.Core.Bool.{Bool, true, false}
 use mathlib.Core.List.{List, [], _∷_}
 use Prim.Native.Nat.{ℕ, zero, suc, _+_, _-_, min, max}

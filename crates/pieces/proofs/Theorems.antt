@@ -34,7 +34,7 @@ pub record Entitled (D : Deck) : Type 0 where
   pub bytes : pieceBytes D ≡ allFrames (pieces D)
   -- Each conjunct has its own piece, in the order of the split.
   pub conjuncts : map (λ (d : Deck). d .property) (pieces D) ≡ split (D .property)
-  -- Each piece keeps document 01's rules and limits.
+  -- Each piece keeps the rules and limits of a deck (RULES 3, 6.2).
   pub accepted : Each (Accepted base) (pieces D)
   -- Each piece reads back from its frames.
   pub read-back : Each (λ (d : Deck). readDeck (deckFrames d) ≡ Got d) (pieces D)

@@ -1,4 +1,4 @@
--- All reduced decks of a deck, written one behind the other into a lent buffer.
+-- All reduced decks of a deck, written one after the other into a lent buffer (RULES 6.5).
 use mathlib.Core.Bool.{true, false}
 use mathlib.Core.List.{List, [], _∷_, _++_}
 use Prim.Native.Nat.{ℕ}

@@ -27,7 +27,7 @@ pieces-need : refusalFrame 17 0 251840 ≡ line "FF11000003D7C0"
 unfolding refusalFrame pairs hexDigit bytes
 pieces-need = refl
 
--- The cone of V1 in document 01's deck, and one of all variables.
+-- The cone of V1 in the worked deck (RULES 9.3), and one of all variables.
 cone-of-two : coneLine 3 2 ≡ line "0000000000000003 2"
 unfolding coneLine sizeText decimal pairs hexDigit bytes
 cone-of-two = refl

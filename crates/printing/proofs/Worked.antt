@@ -1,4 +1,4 @@
--- Document 01's "One deck to the end": what the program prints.
+-- The worked deck (RULES 9.1): what the program prints.
 use mathlib.Core.Path.{_≡_, refl}
 use mathlib.Core.Bool.{true, false}
 use mathlib.Core.List.{List, [], _∷_, _++_, map}

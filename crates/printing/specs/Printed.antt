@@ -1,4 +1,4 @@
--- What the program prints: what was asked for, or one frame FF with number, text and place.
+-- What the program prints: what was asked for, or one frame FF with number, text and place (RULES 8.2).
 use mathlib.Core.Bool.{true, false}
 use mathlib.Core.List.{List, [], _∷_, _++_}
 use Prim.Native.Nat.{ℕ, _%_}

@@ -1,4 +1,4 @@
--- Refused exactly when: an answer is given exactly where its condition holds and none before it in document 01's order.
+-- Refused exactly when: an answer is given exactly where its condition holds and none before it in the order of RULES 7.3 to 7.5.
 use mathlib.Core.Path.{_≡_, refl, sym, _∙_}
 use mathlib.Core.Logic.{_⊎_, _↔_}
 use mathlib.Core.List.{List}

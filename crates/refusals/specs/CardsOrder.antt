@@ -1,4 +1,4 @@
--- The conditions of a text of cards in document 01's order.
+-- The conditions of a text of cards in the order of RULES 7.3.
 use mathlib.Core.Path.{_≡_}
 use mathlib.Core.List.{List, []}
 use Prim.Native.Nat.{ℕ, _<_}

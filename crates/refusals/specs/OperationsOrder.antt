@@ -1,4 +1,4 @@
--- The conditions of the operations on a deck that is read, in document 01's order: a cone's 9, 17, and 20 to 22.
+-- The conditions of the operations on a deck that is read, in the order of RULES 7.5: a cone's 9, 17, and 20 to 22.
 use mathlib.Core.Path.{_≡_}
 use mathlib.Core.List.{List}
 use Prim.Native.Nat.{ℕ, _+_, _<_}
@@ -18,7 +18,7 @@ abbrev pub answerTo : {A : Type 0} → Outcome A → (A → Answer) → Answer
 answerTo (Got x) f = f x
 answerTo (Refused a) f = a
 
--- The text is the frames of the deck, and the deck keeps document 01's rules.
+-- The text is the frames of the deck, and the deck keeps the rules of a deck.
 abbrev pub IsDeck : List ℕ → Deck → Type 0
 IsDeck text d = (text ≡ deckFrames d) × Accepted base d
 

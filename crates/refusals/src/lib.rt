@@ -1,1 +1,1 @@
-// The refusals and their order: when each number of document 01's table is given. There is no code here.
+// The refusals and their order: when each number of RULES 7.2 is given. There is no code here.

@@ -1,4 +1,4 @@
--- What every public operation promises: number, text, place, what is returned, and every byte of the lent buffer, on refusals as on success.
+-- What every public operation promises: number, text, place, what is returned, and every byte of the lent buffer, on refusals as on success (RULES 1.2 to 1.4).
 use mathlib.Core.Path.{_≡_}
 use mathlib.Core.List.{List}
 use Prim.Native.Nat.{ℕ}

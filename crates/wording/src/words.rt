@@ -1,4 +1,4 @@
-// What each number means, in document 01's words, and what to do.
+// What each number means (RULES 7.2), in a line, and what to do.
 ghost use Prim.Native.Nat.{_≤_};
 ghost use lib.ListN.{length};
 use crate::put;
