@@ -9,31 +9,31 @@ use Rattle.replies.proofs.count_reply.Reads as count-reply-reads
 use Rattle.replies.proofs.refusal.Reads as refusal-reads
 use Rattle.texts.proofs.write_deck.Reads as write-deck-reads
 
--- src/lib.rt:120:9
+-- src/lib.rt:112:9
 reply-of-requires : tie.Need-reply-of-requires
 reply-of-requires c κs = search needs
 
--- src/lib.rt:122:9
+-- src/lib.rt:114:9
 refusal-requires : tie.Need-refusal-requires
 refusal-requires c κs = search needs
 
--- src/lib.rt:122:9
+-- src/lib.rt:114:9
 returns : tie.Need-returns
 returns c = let a = c .before .before .before .reply-of in laws.write-refused _ _ _ _ _ _ (a .result) (a .ensures) _ _ (c .before .if1 .taken) (c .refusal .ensures)
 
--- src/lib.rt:124:9
+-- src/lib.rt:116:9
 write-deck-requires : tie.Need-write-deck-requires
 write-deck-requires c κs = let a = c .before .before .before .reply-of in laws.deck-there _ _ _ _ _ _ (a .result) (a .ensures) (c .before .if1 .left) (c .before .before .before .before .before .before .before .before .before .before .pre)
 
--- src/lib.rt:126:5
+-- src/lib.rt:118:5
 count-reply-requires : tie.Need-count-reply-requires
 count-reply-requires c κs = search needs
 
--- src/lib.rt:107:1
+-- src/lib.rt:99:1
 same-length : tie.Need-same-length
 same-length c = search needs
 
--- src/lib.rt:107:1
+-- src/lib.rt:99:1
 returns-2 : tie.Need-returns-2
 returns-2 c = let a = c .before .before .before .before .before .before .before .reply-of in laws.write-done _ _ _ _ _ _ (a .result) (a .ensures) _ _ _ _ (c .before .before .before .before .before .if1 .left) (c .before .before .before .write-deck .ensures) (c .count-reply .ensures)
 

@@ -8,15 +8,15 @@ use Rattle.station.proofs.PackLaws as packs
 use Rattle.station.proofs.check.Reads as check-reads
 use Rattle.exports.proofs.packed.Reads as packed-reads
 
--- src/lib.rt:246:9
+-- src/lib.rt:216:9
 check-requires : tie.Need-check-requires
 check-requires c κs = search needs
 
--- src/lib.rt:247:5
+-- src/lib.rt:217:5
 packed-requires : tie.Need-packed-requires
 packed-requires c κs = search (needs, packs.check-packs)
 
--- src/lib.rt:242:1
+-- src/lib.rt:212:1
 returns : tie.Need-returns
 returns c = search (needs, laws.packed-done)
 

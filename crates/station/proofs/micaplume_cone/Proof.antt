@@ -8,15 +8,15 @@ use Rattle.station.proofs.PackLaws as packs
 use Rattle.station.proofs.cone.Reads as cone-reads
 use Rattle.exports.proofs.export.Reads as export-reads
 
--- src/lib.rt:238:12
+-- src/lib.rt:208:21
 cone-requires : tie.Need-cone-requires
 cone-requires c κs = search needs
 
--- src/lib.rt:238:5
+-- src/lib.rt:208:5
 export-requires : tie.Need-export-requires
 export-requires c κs = search (needs, packs.cone-packs)
 
--- src/lib.rt:234:1
+-- src/lib.rt:204:1
 returns : tie.Need-returns
 returns c = search (needs, laws.export-done)
 

@@ -8,19 +8,19 @@ use Rattle.station.proofs.PackLaws as packs
 use Rattle.exports.proofs.export.Reads as export-reads
 use Rattle.station.proofs.reduce_frames.Reads as reduce-frames-reads
 
--- src/lib.rt:230:12
+-- src/lib.rt:200:21
 reduce-frames-requires : tie.Need-reduce-frames-requires
 reduce-frames-requires c κs = search needs
 
--- src/lib.rt:230:5
+-- src/lib.rt:200:5
 export-requires : tie.Need-export-requires
 export-requires c κs = search (needs, packs.reduce-frames-packs)
 
--- src/lib.rt:226:1
+-- src/lib.rt:196:1
 same-length : tie.Need-same-length
 same-length c = search needs
 
--- src/lib.rt:226:1
+-- src/lib.rt:196:1
 returns : tie.Need-returns
 returns c = let w = c .before .before .before .before .reduce-frames .ensures in (laws.export-done _ _ _ _ (w .0) (c .export .ensures), w .1)
 

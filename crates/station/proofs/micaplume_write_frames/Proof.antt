@@ -8,19 +8,19 @@ use Rattle.station.proofs.PackLaws as packs
 use Rattle.exports.proofs.export.Reads as export-reads
 use Rattle.station.proofs.write_frames.Reads as write-frames-reads
 
--- src/lib.rt:222:12
+-- src/lib.rt:184:21
 write-frames-requires : tie.Need-write-frames-requires
 write-frames-requires c κs = search needs
 
--- src/lib.rt:222:5
+-- src/lib.rt:184:5
 export-requires : tie.Need-export-requires
 export-requires c κs = search (needs, packs.write-frames-packs)
 
--- src/lib.rt:218:1
+-- src/lib.rt:180:1
 same-length : tie.Need-same-length
 same-length c = search needs
 
--- src/lib.rt:218:1
+-- src/lib.rt:180:1
 returns : tie.Need-returns
 returns c = let w = c .before .before .before .before .write-frames .ensures in (laws.export-done _ _ _ _ (w .0) (c .export .ensures), w .1)
 

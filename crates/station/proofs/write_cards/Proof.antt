@@ -7,59 +7,59 @@ use Rattle.station.proofs.write_cards.Lts as lts
 use Rattle.cardreading.proofs.read_cards.Reads as read-cards-reads
 use Rattle.replies.proofs.written.Reads as written-reads
 
--- src/lib.rt:351:9
+-- src/lib.rt:62:9
 slice-aggregate-read-cards : tie.Need-slice-aggregate-read-cards
 slice-aggregate-read-cards c = search needs
 
--- src/lib.rt:352:9
+-- src/lib.rt:63:9
 slice-aggregate-read-cards-2 : tie.Need-slice-aggregate-read-cards-2
 slice-aggregate-read-cards-2 c = search needs
 
--- src/lib.rt:353:9
+-- src/lib.rt:64:9
 slice-aggregate-read-cards-3 : tie.Need-slice-aggregate-read-cards-3
 slice-aggregate-read-cards-3 c = search needs
 
--- src/lib.rt:354:9
+-- src/lib.rt:65:9
 slice-aggregate-read-cards-4 : tie.Need-slice-aggregate-read-cards-4
 slice-aggregate-read-cards-4 c = search needs
 
--- src/lib.rt:355:9
+-- src/lib.rt:66:9
 slice-aggregate-read-cards-5 : tie.Need-slice-aggregate-read-cards-5
 slice-aggregate-read-cards-5 c = search needs
 
--- src/lib.rt:349:9
+-- src/lib.rt:60:9
 read-cards-requires : tie.Need-read-cards-requires
 read-cards-requires c κs = search needs
 
--- src/lib.rt:357:19
+-- src/lib.rt:68:28
 slice-aggregate-written : tie.Need-slice-aggregate-written
 slice-aggregate-written c = search needs
 
--- src/lib.rt:357:27
+-- src/lib.rt:68:36
 slice-aggregate-written-2 : tie.Need-slice-aggregate-written-2
 slice-aggregate-written-2 c = search needs
 
--- src/lib.rt:357:35
+-- src/lib.rt:68:44
 slice-aggregate-written-3 : tie.Need-slice-aggregate-written-3
 slice-aggregate-written-3 c = search needs
 
--- src/lib.rt:357:42
+-- src/lib.rt:68:51
 slice-aggregate-written-4 : tie.Need-slice-aggregate-written-4
 slice-aggregate-written-4 c = search needs
 
--- src/lib.rt:357:50
+-- src/lib.rt:68:59
 slice-aggregate-written-5 : tie.Need-slice-aggregate-written-5
 slice-aggregate-written-5 c = search needs
 
--- src/lib.rt:357:5
+-- src/lib.rt:68:5
 written-requires : tie.Need-written-requires
 written-requires c κs = laws.cards-read _ _ _ _ _ _ _ (c .before .before .before .before .before .before .before .before .before .before .before .read-cards .ensures)
 
--- src/lib.rt:341:1
+-- src/lib.rt:52:1
 same-length : tie.Need-same-length
 same-length c = search needs
 
--- src/lib.rt:341:1
+-- src/lib.rt:52:1
 returns : tie.Need-returns
 returns c = let p = laws.cards-read _ _ _ _ _ _ _ (c .before .before .before .before .before .before .before .before .before .before .before .before .before .before .read-cards .ensures) in c .before .before .written .ensures (p .0) (p .1) (p .2)
 
