@@ -14,14 +14,14 @@ use Rattle.decks.specs.declared.Answer.{Answer}
 use Rattle.decks.specs.declared.Answer.the-variants.{Fine, TooLong, NotDue}
 use Rattle.decks.specs.declared.DeckRead.{DeckRead}
 use Rattle.decks.specs.Answers.{Outcome, Got, Refused, afterwards}
-use Rattle.decks.specs.Readings.{walk, complete}
+use Rattle.decks.specs.Readings.{complete}
 use Rattle.decks.specs.Lent.{HoldsEquations, Blank, deckRead, DeckCame}
 use Rattle.decks.proofs.Answer.{the-type as answers}
 use Rattle.decks.proofs.Stored.{refused-came}
 use Rattle.cards.specs.Card.{cardsOf, inForm}
 use Rattle.cards.specs.Statement.{statementsOf}
 use Rattle.cards.specs.Typed.{risingFrom, deckOf}
-use Rattle.cards.specs.Read.{Due, DueVars, DueInit, DueAny, DueEquation, DueEnd, DueNone, Sofar, begun, statementRead, cardsEnd, readCards}
+use Rattle.cards.specs.Read.{Due, DueVars, DueInit, DueAny, DueEquation, DueEnd, DueNone, Sofar, cardsEnd, readCards}
 use Rattle.cards.proofs.TypedLaws.{allowed-lefts}
 use Rattle.cards.proofs.StatementLaws.{walk-spelt}
 use Rattle.firstpass.specs.Passed.{passed}
@@ -34,6 +34,7 @@ use Rattle.cardlines.specs.declared.StatementRead.{StatementRead}
 use Rattle.cardlines.specs.Held.{dueNumber, PropertyHeld, Holds, Came}
 use Rattle.cardends.specs.Sorted.{Sorted}
 use Rattle.cardreading.specs.Finished.{Ready, Empty}
+use Rattle.cardreading.proofs.WalkLaws.{statementsRead}
 
 -- Rows of zeros before the first statement.
 pub blank-empty : (inits lefts ends nodes property : List ℕ) → Blank inits lefts ends nodes property → Empty inits (replicate 1320 0) lefts ends nodes property
@@ -99,10 +100,6 @@ module _ (held : Held) (inits lefts ends nodes′ property : List ℕ) where
   can-sort (s, r) = (s .typed .equations, sortable s held inits lefts ends nodes′ property r)
 
 -- ---- the second pass
-
--- What the statements of a text come to.
-abbrev statementsRead : List ℕ → Outcome Sofar
-statementsRead text = walk statementRead 1 (statementsOf (cardsOf text)) begun
 
 module _ (text : List ℕ) (r : StatementRead) (inits lefts ends nodes property : List ℕ) where
   abbrev AllCame : Type 0

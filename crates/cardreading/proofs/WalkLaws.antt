@@ -27,15 +27,15 @@ use Rattle.cardsteps.specs.Stepped.{Rows, following, Stepped}
 use Rattle.cardreading.specs.Finished.{Empty}
 
 -- What all statements of the text come to.
-abbrev pub whole : List ℕ → Outcome Sofar
-whole text = walk statementRead 1 (statementsOf (cardsOf text)) begun
+abbrev pub statementsRead : List ℕ → Outcome Sofar
+statementsRead text = walk statementRead 1 (statementsOf (cardsOf text)) begun
 
 -- The statements before a place are read: what they came to, what is held of it, and what the whole comes to from there on.
 pub record Walked (text : List ℕ) (p : Place) (held : Held) (inits lefts ends nodes property : List ℕ) : Type 0 where
   pub sofar : Sofar
   pub holds : Holds sofar held inits lefts ends nodes property
   pub next : ℕ
-  pub rest-is : whole text ≡ walk statementRead next (following text (p .at) (p .n)) sofar
+  pub rest-is : statementsRead text ≡ walk statementRead next (following text (p .at) (p .n)) sofar
 
 -- Arrays as long as those at the start.
 pub record SameLengths (inits₀ scratch₀ lefts₀ ends₀ nodes₀ property₀ inits scratch lefts ends nodes property : List ℕ) : Type 0 where
@@ -88,11 +88,11 @@ begun-small h e =
 -- ---- from statement to statement
 
 -- No statement follows: all were taken.
-pub walked-end : (text : List ℕ) (p : Place) (held : Held) (inits lefts ends nodes property : List ℕ) (r : StatementRead) → Walked text p held inits lefts ends nodes property → length text ≤ p .at → r ≡ record { fine = true; answer = Fine; held = held } → Came (whole text) r inits lefts ends nodes property
+pub walked-end : (text : List ℕ) (p : Place) (held : Held) (inits lefts ends nodes property : List ℕ) (r : StatementRead) → Walked text p held inits lefts ends nodes property → length text ≤ p .at → r ≡ record { fine = true; answer = Fine; held = held } → Came (statementsRead text) r inits lefts ends nodes property
 unfolding walk gathered ended unended
 walked-end text p held inits lefts ends nodes property r w h q =
     let none : following text (p .at) (p .n) ≡ [] = ap (λ (l : List ℕ). gathered (p .n) (cardsOf l) Nothing) (drop-of-length-le text {i = p .at} h) in
-    let z : whole text ≡ Got (w .sofar) = w .rest-is ∙ ap (λ (ss : List Statement). walk statementRead (w .next) ss (w .sofar)) none in
+    let z : statementsRead text ≡ Got (w .sofar) = w .rest-is ∙ ap (λ (ss : List Statement). walk statementRead (w .next) ss (w .sofar)) none in
     rw (z, q) (refl, w .holds)
 
 module _ (text : List ℕ) (p : Place) (held : Held) (inits lefts ends nodes property : List ℕ) (r : Step) (inits′ lefts′ ends′ nodes′ property′ : List ℕ)
@@ -110,17 +110,17 @@ module _ (text : List ℕ) (p : Place) (held : Held) (inits lefts ends nodes pro
   CameTo o = Came o (r .read) inits′ lefts′ ends′ nodes′ property′
 
   -- The whole from the statement on, and what it comes to.
-  from-it : whole text ≡ walk statementRead k (t .its ∷ further) before
+  from-it : statementsRead text ≡ walk statementRead k (t .its ∷ further) before
   from-it = w .rest-is ∙ ap (λ (ss : List Statement). walk statementRead k ss before) (t .first)
 
   came-to : CameTo (statementRead k (t .its) before)
   unfolding statementRead
   came-to = t .came before (w .holds)
 
-  pub walked-refused : not (r .read .fine) ≡ true → CameTo (whole text)
+  pub walked-refused : not (r .read .fine) ≡ true → CameTo (statementsRead text)
   walked-refused f = go (statementRead k (t .its) before) refl came-to
     where
-      go : (o : Outcome Sofar) → statementRead k (t .its) before ≡ o → CameTo o → CameTo (whole text)
+      go : (o : Outcome Sofar) → statementRead k (t .its) before ≡ o → CameTo o → CameTo (statementsRead text)
       go (Got so) q y = let z : false ≡ true = ap not (sym (y .0)) ∙ f in let i : _≡_ {A = ℕ} 0 1 = cc in absurd (omega arith)
       go (Refused a) q y = subst CameTo (sym (from-it ∙ walk-refused statementRead k (t .its) further before a q)) y
 

@@ -1,12 +1,9 @@
 -- The worked deck (RULES 9.1): what the program prints.
 use mathlib.Core.Path.{_≡_, refl}
-use mathlib.Core.Bool.{true, false}
-use mathlib.Core.List.{List, [], _∷_, _++_, map}
-use Prim.Native.Nat.{ℕ, _+_, _-_}
-use Prim.Native.String.{String}
-use lib.ListN.{length, replicate}
+use mathlib.Core.List.{List, [], _∷_, _++_}
+use Prim.Native.Nat.{ℕ, _+_}
 use lib.Count.{ones, onesIn, trailingZeros}
-use Rattle.lists.specs.Lists.{Each, ended, unended, fronted, stands, joined, keep, firsts, others}
+use Rattle.lists.specs.Lists.{ended, unended, fronted, stands, joined, keep, firsts, others}
 use Rattle.lists.specs.Texts.{bytes}
 use Rattle.logic.specs.Expressions.{nodes, written, temporal, value, code}
 use Rattle.logic.specs.Decks.{totalNodes}
@@ -14,8 +11,6 @@ use Rattle.logic.specs.Meaning.{follower}
 use Rattle.logic.specs.Cones.{grown, passes, cone}
 use Rattle.logic.specs.Pieces.{split, piece, pieces}
 use Rattle.logic.specs.Verdicts.{unrolled, truth, taken, allowed, stepsFrom, verdict}
-use Rattle.decks.specs.declared.Reply.{Reply}
-use Rattle.decks.specs.declared.Answer.the-variants.{Fine}
 use Rattle.decks.specs.Readings.{walk, leftSet, complete}
 use Rattle.frames.specs.Hex.{hexDigit, pairs, digitOf, byteOf, numberFrom}
 use Rattle.frames.specs.Written.{codeByte, nodePairs, stateFrames, equationFrames, deckFrames}

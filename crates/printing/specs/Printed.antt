@@ -8,9 +8,8 @@ use Rattle.logic.specs.Expressions.{decimal}
 use Rattle.logic.specs.Decks.{Deck}
 use Rattle.decks.specs.declared.Answer.{Answer}
 use Rattle.decks.specs.declared.Answer.the-variants.{Fine, NoRoom}
-use Rattle.decks.specs.declared.Reply.{Reply}
 use Rattle.decks.specs.Answers.{Outcome, Got, Refused, replyOf}
-use Rattle.frames.specs.Hex.{pair, pairs}
+use Rattle.frames.specs.Hex.{pairs}
 use Rattle.frames.specs.Written.{frame, deckFrames}
 use Rattle.pieces.specs.Reduced.{pieceBytes}
 use Rattle.texts.specs.Texts.{Filled, filled}
