@@ -115,6 +115,28 @@ static bool third_gives(const char *words, const char *part, int times, const ch
     return cards_give(number, number ? 3 : 0);
 }
 
+/* These cards in place of VARS 0, and the others of a deck without variables. */
+static bool vars_give(const char *cards, unsigned number, uint64_t place)
+{
+    begin();
+    add(cards);
+    card("INIT");
+    card("PROP 0");
+    card("END");
+    return cards_give(number, place);
+}
+
+/* A deck without variables that ends with these cards, from card 4 on. */
+static bool end_gives(const char *cards, unsigned number, uint64_t place)
+{
+    begin();
+    card("VARS 0");
+    card("INIT");
+    card("PROP 0");
+    add(cards);
+    return cards_give(number, place);
+}
+
 static uint64_t check(const char *deck, const char *claim)
 {
     return ref_check((const uint8_t *)deck, strlen(deck), (const uint8_t *)claim, strlen(claim));
@@ -465,7 +487,7 @@ static void points_of_cards(void)
         card("END");
         EXPECT(over ? cards_give(14, 3) : cards_give(0, 0));
     }
-    /* Asides may follow END; a lower-case c is no comment. */
+    /* Comments and blank cards may follow END; a lower-case c is no comment. */
     begin();
     card("VARS 0");
     card("INIT");
@@ -476,6 +498,144 @@ static void points_of_cards(void)
     begin();
     add("c     VARS 0\n");
     EXPECT(cards_give(4, 1));
+}
+
+#define BLANK_72 "                                                                        "
+#define NUMBERED_BLANK BLANK_72 "00000020\n"
+
+/* VARS 0 with so many continuations, the digit on the last card. So many comments
+   stand before each continuation and after the last. */
+static bool continued_give(int continuations, int comments, unsigned number, uint64_t place)
+{
+    char cards[20000] = "      VARS";
+    for (int i = 1; i <= continuations; i++) {
+        strcat(cards, "\n");
+        for (int k = 0; k < comments; k++)
+            strcat(cards, k % 2 ? "*    1 9\n" : "C\n");
+        strcat(cards, "     1");
+    }
+    strcat(cards, " 0\n");
+    for (int k = 0; k < comments; k++)
+        strcat(cards, "C\n");
+    return vars_give(cards, number, place);
+}
+
+/* (..((V0&V0)&(V0&V0))..) of so many leaves. */
+static char *put_even(char *at, int leaves)
+{
+    if (leaves == 1)
+        return at + sprintf(at, "V0");
+    *at++ = '(';
+    at = put_even(at, leaves / 2);
+    *at++ = '&';
+    at = put_even(at, leaves - leaves / 2);
+    *at++ = ')';
+    *at = 0;
+    return at;
+}
+
+/* The text with these comments after each of its cards. */
+static void comment_each_card(const char *comments)
+{
+    static char plain[sizeof text];
+    size_t end = length;
+    memcpy(plain, text, length);
+    begin();
+    for (size_t i = 0; i < end; i++) {
+        text[length++] = plain[i];
+        if (plain[i] == '\n')
+            add(comments);
+    }
+}
+
+/* The cards write the same frames with these comments after each of them. */
+static bool same_with(const char *comments)
+{
+    static uint8_t without[sizeof out];
+    if (!cards_give(0, 0))
+        return false;
+    uint64_t bytes = counts[0];
+    memcpy(without, out, sizeof out);
+    comment_each_card(comments);
+    return cards_give(0, 0) && counts[0] == bytes && memcmp(out, without, sizeof out) == 0;
+}
+
+static void comments_between_cards(void)
+{
+    /* A comment closes nothing: before the first continuation, between two, before
+       the last, after the last, or several in a row. */
+    EXPECT(vars_give("      VARS\nC\n     1 0\n", 0, 0));
+    EXPECT(vars_give("      VA\n*\n     1RS\n     2 0\n", 0, 0));
+    EXPECT(vars_give("      VA\n     1R\nC RELAY 7\n     2S\n     3 0\n", 0, 0));
+    EXPECT(vars_give("      VA\n     1RS\n* RELAY 7\n     2 0\n", 0, 0));
+    EXPECT(vars_give("      VARS\n     1 0\nC\n", 0, 0));
+    EXPECT(vars_give("      VARS\nC\n*\n*\nC\n     1 0\n", 0, 0));
+    EXPECT(vars_give("C\n      VARS\nC\n     1\n*\n     2 0\nC\n*\n", 0, 0));
+    EXPECT(vars_give("     0\nC\n     1VARS 0\n", 0, 0));
+    /* Nothing on a comment is read, whatever it looks like. */
+    EXPECT(vars_give("      VARS\nC    1 9\n*    0 9\nC     END\n     1 0\n", 0, 0));
+    EXPECT(vars_give("      VARS\nC\n     1 65\n", 8, 1));
+    EXPECT(vars_give("     0\nC\n     1VARS 65\n", 8, 1));
+    EXPECT(vars_give("      VARS 0\nC\n     1 0\n", 8, 1));
+    EXPECT(vars_give("      VARS 0\nC\n     1\nC\n      VARS 0\n", 8, 5));
+    /* Where none is open, a comment opens none. */
+    EXPECT(vars_give("C\n     1VARS 0\n", 6, 2));
+    EXPECT(vars_give("C    0\n     1VARS 0\n", 6, 2));
+    /* A blank card closes, also with a card number and with comments beside it. */
+    EXPECT(vars_give("      VARS\n\n     1 0\n", 6, 3));
+    EXPECT(vars_give("      VARS\n" NUMBERED_BLANK "     1 0\n", 6, 3));
+    EXPECT(vars_give("      VARS\nC\n\n     1 0\n", 6, 4));
+    EXPECT(vars_give("      VARS\n\nC\n     1 0\n", 6, 4));
+    EXPECT(vars_give("      VARS\nC\n\n*\n     1 0\n", 6, 5));
+    EXPECT(vars_give("      VARS\nC\n" NUMBERED_BLANK "*\n     1 0\n", 6, 5));
+    EXPECT(vars_give("      VARS\nC\n     1 0\n\nC\n     2\n", 6, 6));
+    EXPECT(vars_give("      VARS 0\nC\n" NUMBERED_BLANK "*\n", 0, 0));
+    /* Comments are judged for 2 and 3, there as elsewhere, and not for 4 and 5. */
+    EXPECT(vars_give("      VARS\nC\t\n     1 0\n", 2, 2));
+    EXPECT(vars_give("      VARS\nC" NUMBERED_BLANK "     1 0\n", 3, 2));
+    EXPECT(vars_give("      VARS\nc\n     1 0\n", 4, 2));
+    EXPECT(vars_give("      VARS\nCX" BLANK_72 "2\n     1 0\n", 0, 0));
+    /* Only continuations count towards 19: comments do not. */
+    for (int comments = 0; comments <= 3; comments++) {
+        EXPECT(continued_give(18, comments, 0, 0));
+        EXPECT(continued_give(19, comments, 0, 0));
+        EXPECT(continued_give(20, comments, 7, (uint64_t)(21 + 20 * comments)));
+    }
+    EXPECT(continued_give(1, 40, 0, 0));
+    EXPECT(continued_give(2, 40, 0, 0));
+    EXPECT(continued_give(19, 40, 0, 0));
+    EXPECT(continued_give(20, 40, 7, 821));
+    /* Nor do they count towards 1,320 characters, and this equation has as many. */
+    char equation[1400] = "V0=";
+    put_even(equation + 3, 264);
+    EXPECT(strlen(equation) == 1320);
+    begin();
+    card("VARS 1");
+    card("INIT 0");
+    card(equation);
+    card("PROP V0");
+    card("END");
+    EXPECT(same_with("C    1(V0&V0)(V0&V0)(V0&V0)(V0&V0)(V0&V0)(V0&V0)(V0&V0)(V0&V0)\n"));
+    /* A comment between PROP and its continuation changes nothing that is written. */
+    begin();
+    add(worked);
+    length -= strlen("      PROP (G~V1 & F V2)\n      END\n");
+    add("      PROP (G~V1 &\nC THE SECOND CONJUNCT\n     1 F V2)\n      END\n");
+    EXPECT(cards_give(0, 0) && counts[0] == strlen(whole));
+    EXPECT(memcmp(out, whole, strlen(whole)) == 0 && out[strlen(whole)] == 0xA5);
+    begin();
+    add("     0VA\n     1RS 4\n      INIT 0\n     9000\n      INIT 0011\n      V0=\n     1~V0\n"
+        "      V1=(V0&\n     2V1)\n      V1=V0\n     +\n      V2=V3\n      V3=~V2\n"
+        "      P\n     1ROP (G~\n     2V1 & F V2\n     3)\n      E\n     1N\n     2D\n");
+    EXPECT(same_with("*     ~\nC\n") && counts[0] == strlen(whole));
+    EXPECT(memcmp(out, whole, strlen(whole)) == 0);
+    /* END is continued like every statement; after it comments are free. */
+    EXPECT(end_gives("      EN\nC\n     1D\n", 0, 0));
+    EXPECT(end_gives("      END\nC\n*\n     1\n*\n", 0, 0));
+    EXPECT(end_gives("      END\nC\n     1END\n", 8, 4));
+    EXPECT(end_gives("      END\nC\n\n     1\n", 6, 7));
+    EXPECT(end_gives("      END\nC\n      END\n", 8, 6));
+    EXPECT(end_gives("      END\nC     END\n*     END", 0, 0));
 }
 
 #define SET "010000000000000001\n"
@@ -645,6 +805,7 @@ int main(void)
     proved_lines();
     run_lines();
     points_of_cards();
+    comments_between_cards();
     points_of_frames();
     truth();
     reading();

@@ -656,22 +656,45 @@ static void to_frames(const struct model *m, struct sheet *sheet)
 
 /* ---- Layout: statements onto cards ---- */
 
-static void add_aside(struct sheet *cards)
+/* A comment of free text, or the card before it made a comment. */
+static void add_comment(struct sheet *cards)
 {
     struct line *line = insert_line(cards, cards->lines);
     line->length = 0;
-    if (chance(60)) {
-        line->byte[line->length++] = (uint8_t)any_of("C*");
-        for (int more = below(80); more; more--)
+    if (cards->lines > 1 && chance(40))
+        copy_line(line, line - 1);
+    else
+        for (int more = below(chance(50) ? 12 : 81); more; more--)
             line->byte[line->length++] = (uint8_t)(32 + below(95));
-    } else {
-        pad_line(line, below(73));
-        if (chance(20)) {
-            pad_line(line, 72);
-            for (int i = 0; i < 8; i++)
-                line->byte[line->length++] = (uint8_t)('0' + below(10));
-        }
+    pad_line(line, 1);
+    line->byte[0] = (uint8_t)any_of("C*");
+}
+
+static void add_blank(struct sheet *cards)
+{
+    struct line *line = insert_line(cards, cards->lines);
+    line->length = 0;
+    pad_line(line, below(73));
+    if (chance(20)) {
+        pad_line(line, 72);
+        for (int i = 0; i < 8; i++)
+            line->byte[line->length++] = (uint8_t)('0' + below(10));
     }
+}
+
+static void add_aside(struct sheet *cards)
+{
+    if (chance(60))
+        add_comment(cards);
+    else
+        add_blank(cards);
+}
+
+/* One comment or several in a row. */
+static void add_comments(struct sheet *cards)
+{
+    for (int more = chance(60) ? 1 : 2 + below(3); more; more--)
+        add_comment(cards);
 }
 
 static void close_card(struct line *line)
@@ -688,8 +711,12 @@ static void close_card(struct line *line)
 /* Where each statement's first card is. */
 static int first_card[LINES];
 
+/* Statements onto cards, 66 characters to a card if plain. Else there may be
+   blanks, card numbers, asides, and comments inside a statement: before none of
+   its continuations, before some or before all. */
 static void lay_out(const struct sheet *statements, struct sheet *cards, bool plain)
 {
+    static const int percent[] = { 0, 30, 100 };
     cards->lines = 0;
     for (int s = 0; s < statements->lines; s++) {
         const struct line *statement = &statements->line[s];
@@ -697,8 +724,11 @@ static void lay_out(const struct sheet *statements, struct sheet *cards, bool pl
         int at = 0, used = 0;
         if (!plain && chance(10))
             add_aside(cards);
+        int commented = plain ? 0 : percent[below(3)];
         first_card[s] = cards->lines;
         do {
+            if (used && chance(commented))
+                add_comments(cards);
             struct line *card = insert_line(cards, cards->lines);
             int last = loose && used < 8 && chance(30) ? 7 + below(66) : 72;
             card->length = 0;
@@ -882,8 +912,8 @@ static void damage_statement(struct sheet *sheet, int fault, int target)
 /* ---- Faults of cards ---- */
 
 enum {
-    BAD_BYTE = STATEMENT_FAULTS, LONG_CARD, BAD_LABEL, BAD_COLUMNS, NOT_OPEN, CONTINUED, FREE_COMMENT,
-    BLANK_WITH_COLUMNS, LOST_MARK, LONG_TEXT, CARD_FAULTS
+    BAD_BYTE = STATEMENT_FAULTS, LONG_CARD, BAD_LABEL, BAD_COLUMNS, NOT_OPEN, CONTINUED, COMMENTED,
+    FREE_COMMENT, BLANK_WITH_COLUMNS, LOST_MARK, LONG_TEXT, CARD_FAULTS
 };
 
 static void damage_card(struct sheet *cards, int fault, int target)
@@ -918,13 +948,27 @@ static void damage_card(struct sheet *cards, int fault, int target)
         for (const char *c = columns[below(9)]; *c; c++)
             line->byte[line->length++] = (uint8_t)*c;
         break;
-    case NOT_OPEN:
+    case NOT_OPEN: /* a continuation after a blank card, comments beside that or none */
         set_line(insert_line(cards, target), chance(50) ? "     1" : "     X V0");
-        set_line(insert_line(cards, target), chance(50) ? "C" : "");
+        if (chance(50))
+            set_line(insert_line(cards, target), "C");
+        set_line(insert_line(cards, target), chance(50) ? "" : "       ");
+        if (chance(50))
+            set_line(insert_line(cards, target), "*    1");
         break;
-    case CONTINUED:
-        for (int more = 18 + below(4); more; more--)
+    case CONTINUED: /* about as many continuations as there may be, comments among them or none */
+        at = chance(50) ? 40 : 0;
+        for (int more = 18 + below(4); more; more--) {
             set_line(insert_line(cards, target + 1), more % 5 ? "     1" : "     9      ");
+            if (chance(at))
+                set_line(insert_line(cards, target + 1), more % 2 ? "C" : "*    1V0");
+        }
+        break;
+    case COMMENTED: /* comments after the card; then a continuation, or what stood there */
+        if (chance(60))
+            set_line(insert_line(cards, target + 1), chance(60) ? "     1" : "     X V0");
+        for (int more = 1 + below(4); more; more--)
+            set_line(insert_line(cards, target + 1), chance(50) ? "C" : "*    X~");
         break;
     case FREE_COMMENT:
         set_line(insert_line(cards, target), "C12345 free text");
@@ -1562,6 +1606,39 @@ static void limits(void)
     }
 }
 
+/* (..((V0&V0)&(V0&V0))..) of so many leaves. */
+static char *put_even(char *at, int leaves)
+{
+    if (leaves == 1)
+        return at + sprintf(at, "V0");
+    *at++ = '(';
+    at = put_even(at, leaves / 2);
+    *at++ = '&';
+    at = put_even(at, leaves - leaves / 2);
+    *at++ = ')';
+    *at = 0;
+    return at;
+}
+
+/* An equation of 1,320 characters, which fill twenty cards, or of one more. */
+static void full_statements(void)
+{
+    for (int over = 0; over <= 1; over++)
+        for (int i = 0; i < 8; i++) {
+            static const char *const start[] = { "V0=", "V0=~" };
+            statements.lines = 0;
+            add_line(&statements, "VARS1");
+            add_line(&statements, "INIT0");
+            put_even(word + sprintf(word, "%s", start[over]), 264);
+            add_line(&statements, word);
+            add_line(&statements, "PROPV0");
+            add_line(&statements, "END");
+            lay_out(&statements, &cards, i == 0);
+            join(&one, &cards);
+            emit_deck(card_operation(), &one);
+        }
+}
+
 /* A counter of so many bits: each variable turns when all below are ones. */
 static void counter_model(struct model *m, int bits)
 {
@@ -1782,23 +1859,84 @@ static void add_faulty_card(int set, char mark)
 static void orders_of_one_card(void)
 {
     for (int set = 0; set < 16; set++)
-        for (int other = 0; other < 6; other++) {
+        for (int other = 0; other < 10; other++) {
             cards.lines = 0;
-            add_line(&cards, other == 5 ? "      VARS 65" : "      VARS 0");
-            if (other == 1) /* 6 on the card too */
+            if (other != 9) /* else none is open yet, and 6 is on the card too */
+                add_line(&cards, other == 5 ? "      VARS 65" : "      VARS 0");
+            if (other == 1) { /* 6 on the card too */
                 add_line(&cards, "C");
-            for (int more = other == 2 ? 19 : 0; more; more--) /* 7 on the card too */
-                add_line(&cards, "     1");
-            if (other == 3) { /* 6 on the card before */
+                add_line(&cards, "");
+            }
+            if (other == 1 || other == 6 || other == 9) /* closes nothing, and opens nothing */
                 add_line(&cards, "*");
+            for (int more = other == 2 || other == 7 ? 19 : 0; more; more--) { /* 7 on the card too */
+                add_line(&cards, "     1");
+                if (other == 7)
+                    add_line(&cards, "C    1");
+            }
+            if (other == 3) { /* 6 on the card before */
+                add_line(&cards, "");
                 add_line(&cards, "     1");
             }
             if (other == 4) /* a lower fault on the next card */
                 add_faulty_card(set, '2');
             add_faulty_card(other == 4 ? 1 : set, '2');
+            if (other == 8) { /* the card is a comment inside a statement */
+                cards.line[cards.lines - 1].byte[0] = 'C';
+                add_line(&cards, "     1");
+            }
             add_line(&cards, "      INIT");
             add_line(&cards, "      PROP 0");
             add_line(&cards, "      END");
+            join(&one, &cards);
+            emit_deck(card_operation(), &one);
+        }
+}
+
+/* A statement with so many continuations, the last of which has a character of it
+   at least. Bits: 0 for comments before the first continuation, 1 before the last,
+   2 before those between, 3 after the last; 4 for a blank card before one of the
+   continuations, beside its comments. */
+static void add_commented(const char *words, int continuations, int set)
+{
+    int closed = asked(set, 4) ? 1 + below(continuations) : 0;
+    int left = (int)strlen(words);
+    for (int i = 0; i <= continuations; i++) {
+        bool comments = i > 0 && asked(set, i == 1 ? 0 : i == continuations ? 1 : 2);
+        if (comments)
+            add_comments(&cards);
+        if (i > 0 && i == closed) {
+            add_blank(&cards);
+            if (comments && chance(50))
+                add_comments(&cards);
+        }
+        int taken = i == continuations ? left : i == 0 && chance(30) ? 0 : below(left);
+        char mark = i ? any_of("123456789+X*C") : taken ? ' ' : '0';
+        sprintf(word, "     %c%.*s", mark, taken, words);
+        add_line(&cards, word);
+        words += taken;
+        left -= taken;
+    }
+    if (asked(set, 3))
+        add_comments(&cards);
+}
+
+/* Comments inside one statement of a deck, at every set of places, where it has
+   few continuations and where it has about as many as it may. The statement is
+   right, or a character too long. */
+static void comments_inside(void)
+{
+    static const char *const statement[] = { "VARS1", "INIT0", "V0=(V0&~V0)", "PROP(GV0&FV0)", "END" };
+    static const int continuations[] = { 3, 18, 19, 20 };
+    for (int i = 0; i < 4; i++)
+        for (int set = 0; set < 32; set++) {
+            int chosen = below(5);
+            cards.lines = 0;
+            for (int s = 0; s < 5; s++) {
+                char words[20];
+                sprintf(words, "%s%s", statement[s], s == chosen && chance(30) ? ")" : "");
+                add_commented(words, s == chosen ? continuations[i] : 0, s == chosen ? set : 0);
+            }
             join(&one, &cards);
             emit_deck(card_operation(), &one);
         }
@@ -2106,8 +2244,10 @@ int main(int count, char **words)
     forms();
     levels();
     limits();
+    full_statements();
     long_claims();
     orders_of_one_card();
+    comments_inside();
     orders_of_one_equation();
     orders_of_one_frame();
     orders_of_one_state();

@@ -110,7 +110,7 @@ card-comes n card o = bytes (every printable card) refl
     bytes true e = widths (ltb cardColumns (length card)) refl (each-map (λ (c : ℕ). printable c ≡ true) (λ (b : ℕ). (32 ≤ b) × (b ≤ 126)) card printable-byte (every-each printable card e))
     bytes false e = inl (refl, λ h. true-false (sym (bytes-every card h) ∙ e))
 
-formed-passes : (n : ℕ) (card : List ℕ) (o : Open) → Formed card → cardInForm n card o ≡ opened n (kindOf card) o
+pub formed-passes : (n : ℕ) (card : List ℕ) (o : Open) → Formed card → cardInForm n card o ≡ opened n (kindOf card) o
 formed-passes n card o f =
     ⊎-elim
     (λ (e, b). absurd (b (f .bytes-in)))

@@ -11,11 +11,11 @@ use Rattle.lists.specs.Texts.{bytes}
 use Rattle.logic.specs.Expressions.{Expr, Const, Var, One, Two, Not, And, nodes, written, temporal, spelling}
 use Rattle.logic.specs.Decks.{Equation, totalNodes}
 use Rattle.logic.proofs.Cases.{worked}
-use Rattle.decks.specs.declared.Answer.{Answer}
 use Rattle.decks.specs.declared.Reply.{Reply}
 use Rattle.decks.specs.declared.Answer.the-variants.{Fine, TooManyCards, ManyEquations, ManyNodes}
-use Rattle.decks.specs.Answers.{Outcome, Got, Refused, replyOf}
+use Rattle.decks.specs.Answers.{Got, Refused, replyOf}
 use Rattle.decks.specs.Readings.{walk, leftSet, complete}
+use Rattle.decks.proofs.Outcomes.{answerOf}
 use Rattle.cards.specs.Card.{blank, columns, every, Continuing, kindOf, Continued, opened, cardInForm}
 use Rattle.cards.specs.Statement.{gathered}
 use Rattle.cards.specs.Grammar.{secondDigit, readNumber, signOf, jointOf, past, pastJoint, readExpr}
@@ -57,10 +57,6 @@ text cards = joined (map bytes cards)
 -- A number, the text at fault, and a place.
 abbrev says : ℕ → ℕ → ℕ → Reply
 says n t p = record { number = n; text = t; place = p }
-
-abbrev answerOf : {A : Type 0} → Outcome A → Answer
-answerOf (Got x) = Fine
-answerOf (Refused a) = a
 
 abbrev Row : Type 0
 Row = List ℕ × Reply
@@ -104,13 +100,20 @@ formRows =
     (text (smallest ++ ("                                                                        2" ∷ [])), says 5 1 5) ∷
     (text ("      VARS 0                                                            123" ∷ afterVars), says 5 1 1) ∷
     (text ("*                                                                       2" ∷ smallest), says 0 0 0) ∷
-    -- 6: a continuation with no statement open: at the begin, behind a comment, behind a blank card.
+    -- 6: a continuation with no statement open: at the begin, also behind a comment; behind a blank card, be it numbered, and whatever comments stand beside it.
     (text ("     1VARS 0" ∷ afterVars), says 6 1 1) ∷
-    (text ("      VARS 0" ∷ "C" ∷ "     1" ∷ afterVars), says 6 1 3) ∷
+    (text ("C" ∷ "     1VARS 0" ∷ afterVars), says 6 1 2) ∷
     (text ("      VARS 0" ∷ "" ∷ "     1" ∷ afterVars), says 6 1 3) ∷
-    -- 7: 19 continuations pass, the twentieth does not. A continuation with a blank field continues.
+    (text ("      VARS 0" ∷ "                                                                        00000020" ∷ "     1" ∷ afterVars), says 6 1 3) ∷
+    (text ("      VARS 0" ∷ "C" ∷ "" ∷ "*" ∷ "     1" ∷ afterVars), says 6 1 5) ∷
+    -- A comment closes nothing, be it one or several, before the first continuation, between two or behind the last.
+    (text ("      VARS 0" ∷ "C" ∷ "     1" ∷ afterVars), says 0 0 0) ∷
+    (text ("      VA" ∷ "C" ∷ "* RS 0" ∷ "     1RS" ∷ "C" ∷ "     2 0" ∷ "*" ∷ afterVars), says 0 0 0) ∷
+    -- 7: 19 continuations pass, the twentieth does not. A continuation with a blank field continues. Comments are not counted.
     (text ("      VA" ∷ replicate 18 "     1" ++ "     9RS 0" ∷ afterVars), says 0 0 0) ∷
     (text ("      VA" ∷ replicate 19 "     1" ++ "     9RS 0" ∷ afterVars), says 7 1 21) ∷
+    (text ("      VA" ∷ "C" ∷ replicate 18 "     1" ++ "*" ∷ "     9RS 0" ∷ afterVars), says 0 0 0) ∷
+    (text ("      VA" ∷ "C" ∷ replicate 19 "     1" ++ "*" ∷ "     9RS 0" ∷ afterVars), says 7 1 23) ∷
     -- `0` in column 6 opens a statement: 8 where nothing is on it, also behind END.
     (text ("     0VARS 0" ∷ afterVars), says 0 0 0) ∷
     (text ("      VARS 0" ∷ "     0" ∷ afterVars), says 8 1 2) ∷

@@ -74,7 +74,7 @@ card-given n card o =
 pub card-formed : (n : ℕ) (card : List ℕ) (o p : Open) → cardInForm n card o ≡ Got p → Formed card × (opened n (kindOf card) o ≡ Got p)
 card-formed n card o p e = got-given (λ (q : Open). Formed card × (opened n (kindOf card) o ≡ Got q)) (cardInForm n card o) p (card-given n card o) e
 
-opened-comment : (n : ℕ) (o : Open) → opened n Comment o ≡ Got Shut
+opened-comment : (n : ℕ) (o : Open) → opened n Comment o ≡ Got o
 unfolding opened
 opened-comment n o = refl
 
@@ -174,12 +174,12 @@ texts-gathered (c ∷ cs) n o p h a e =
         ∙ ap (λ (x : List ℕ). textOf s ++ x) (sym (text-card c cs r))
 
     go : (k : Kind) → KindSays c k → (u : Open) → opened n k o ≡ Got u → ((g : Hand) → Agree u g → together (map textOf (gathered (suc n) cs g)) ≡ inkHeld g ++ deckText cs) → together (map textOf (elim k [
-      | Comment ↦ laid h (gathered (suc n) cs Nothing)
+      | Comment ↦ gathered (suc n) cs h
       | Empty ↦ laid h (gathered (suc n) cs Nothing)
       | Opening ↦ laid h (gathered (suc n) cs (Held (record { card = n; further = []; field = fieldOf c })))
       | Continuing ↦ gathered (suc n) cs (folded n c h)
     ])) ≡ inkHeld h ++ deckText (c ∷ cs)
-    go Comment k u q f = closed u (sym (opened-comment n o) ∙ q) f ∙ ap (λ (x : List ℕ). inkHeld h ++ x) (sym (text-remark c cs k))
+    go Comment k u q f = f h (subst (λ (v : Open). Agree v h) (got-eq (sym (opened-comment n o) ∙ q)) a) ∙ ap (λ (x : List ℕ). inkHeld h ++ x) (sym (text-remark c cs k))
     go Empty k u q f = closed u (sym (opened-empty n o) ∙ q) f ∙ ap (λ (x : List ℕ). inkHeld h ++ x) (sym (text-card c cs (k .0) ∙ ap (λ (x : List ℕ). x ++ deckText cs) (k .1)))
     go Opening k u q f =
         let s : Statement = record { card = n; further = []; field = fieldOf c } in

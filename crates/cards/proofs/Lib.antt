@@ -8,3 +8,4 @@ pub mod FormLaws
 pub mod NothingDropped
 pub mod ExactlyWhen
 pub mod CardsExactlyWhen
+pub mod CommentMeansNothing

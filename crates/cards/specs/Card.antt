@@ -6,7 +6,6 @@ use Prim.Native.Char.{code as character}
 use lib.Dec.{ltb, leb, eqb}
 use lib.ListN.{length, take, drop, getD, replicate}
 use Rattle.lists.specs.Lists.{ended, unended}
-use Rattle.decks.specs.declared.Answer.{Answer}
 use Rattle.decks.specs.declared.Answer.the-variants.{BadByte, TooWide, BadStart, BadNumber, NoneOpen, TooManyCards}
 use Rattle.decks.specs.Answers.{Outcome, Got, Refused, refuse}
 use Rattle.decks.specs.Readings.{walk}
@@ -80,13 +79,6 @@ kindOf card =
           ]
     ]
 
--- The cards that close the open statement and open none.
-abbrev pub closes : Kind → Bool
-closes Comment = true
-closes Empty = true
-closes Opening = false
-closes Continuing = false
-
 -- Columns 73 to 80 are all blank or exactly eight digits.
 abbrev pub numbered : List ℕ → Bool
 numbered card = every isBlank (columns 73 cardColumns card) || every isDigit (columns 73 cardColumns card)
@@ -96,10 +88,10 @@ pub data Open : Type 0 where
   Shut : Open
   Continued : ℕ → Open
 
--- What a card of this kind, number n, makes of it: 6 and 7.
+-- What a card of this kind, number n, makes of it: 6 and 7. A comment closes nothing, a blank card closes the open statement.
 unfoldable pub opened : ℕ → Kind → Open → Outcome Open
-opened n Comment o = Got (elim (closes Comment) [ true ↦ Shut | false ↦ o ])
-opened n Empty o = Got (elim (closes Empty) [ true ↦ Shut | false ↦ o ])
+opened n Comment o = Got o
+opened n Empty o = Got Shut
 opened n Opening o = Got (Continued 0)
 opened n Continuing Shut = Refused (NoneOpen n)
 opened n Continuing (Continued k) = refuse (ltb continuations (k + 1)) (TooManyCards n) (Got (Continued (k + 1)))

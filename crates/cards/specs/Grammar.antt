@@ -1,5 +1,5 @@
 -- The grammar of statements (RULES 2.7, 2.8) over their characters without blanks (RULES 2.5), read from the left (RULES 7.6).
-use mathlib.Core.Bool.{Bool, true, false, _&&_}
+use mathlib.Core.Bool.{Bool, true, false}
 use mathlib.Core.List.{List, [], _∷_}
 use mathlib.Core.Option.{Option, none, some}
 use Prim.Native.Nat.{ℕ, zero, suc, _+_, _-_, _*_}

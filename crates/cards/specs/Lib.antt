@@ -4,4 +4,5 @@ pub mod Grammar
 pub mod Typed
 pub mod Read
 pub mod Columns
+pub mod Comments
 pub mod Deep

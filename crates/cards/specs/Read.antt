@@ -1,10 +1,10 @@
 -- Cards read: from the bytes of a text to a deck, or to one refusal, in the order of RULES 7.3. The statements that are due are those of RULES 2.6.
-use mathlib.Core.Bool.{Bool, true, false, not, _||_}
+use mathlib.Core.Bool.{true, false, not, _||_}
 use mathlib.Core.List.{List, [], _∷_, _++_}
 use mathlib.Core.Option.{Option, none, some}
 use Prim.Native.Nat.{ℕ, zero, suc, _+_, _-_, _*_, _^_}
 use Prim.Native.Char.{code as character}
-use lib.Dec.{ltb, leb, eqb}
+use lib.Dec.{ltb, eqb}
 use lib.ListN.{length}
 use Rattle.lists.specs.Texts.{bytes}
 use Rattle.sets.specs.Sets.{has, inside}
@@ -12,10 +12,10 @@ use Rattle.logic.specs.Expressions.{Expr, Const, nodes, written, temporal}
 use Rattle.logic.specs.Decks.{Equation, Deck, base, totalNodes}
 use Rattle.decks.specs.declared.Answer.the-variants.{TooLong, NotDue, Outside, Temporal, TooDeep, ManyInitials, ManyEquations, ManyNodes}
 use Rattle.decks.specs.Answers.{Outcome, Got, Refused, refuse, afterwards}
-use Rattle.decks.specs.Readings.{Reading, Whole, Wrong, Deep, walk, complete}
+use Rattle.decks.specs.Readings.{Whole, Wrong, Deep, walk, complete}
 use Rattle.cards.specs.Card.{cardsOf, inForm}
 use Rattle.cards.specs.Statement.{Statement, inked, statementsOf}
-use Rattle.cards.specs.Grammar.{Counted, Number, NoNumber, digitValue, readNumber, readExpr}
+use Rattle.cards.specs.Grammar.{Number, NoNumber, digitValue, readNumber, readExpr}
 use Rattle.cards.specs.Typed.{Typed, firstVars, deckOf}
 
 -- What stands behind the word, where the text begins with it.

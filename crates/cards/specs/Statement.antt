@@ -1,9 +1,9 @@
--- Statements: the statement fields of an opening card and the cards that continue it, one after the other (RULES 2.4).
-use mathlib.Core.Bool.{Bool, true, false, not}
+-- Statements: the statement fields of an opening card and the cards that continue it, one after the other, comments between them left out (RULES 2.4).
+use mathlib.Core.Bool.{not}
 use mathlib.Core.List.{List, [], _∷_, _++_}
 use Prim.Native.Nat.{ℕ, suc}
 use Rattle.lists.specs.Lists.{keep}
-use Rattle.cards.specs.Card.{columns, fieldStart, fieldEnd, isBlank, Kind, Comment, Empty, Opening, Continuing, closes, kindOf}
+use Rattle.cards.specs.Card.{columns, fieldStart, fieldEnd, isBlank, Comment, Empty, Opening, Continuing, kindOf}
 
 -- A statement: the numbers of its cards, the first in front, and their fields, each filled with blanks to its 66 columns.
 pub record Statement : Type 0 where
@@ -34,13 +34,13 @@ abbrev pub folded : ℕ → List ℕ → Hand → Hand
 folded n card Nothing = Nothing
 folded n card (Held s) = Held (record { card = s .card; further = s .further ++ (n ∷ []); field = s .field ++ fieldOf card })
 
--- The statements of the cards from number n on.
+-- The statements of the cards from number n on. A comment changes nothing; the one in hand is laid down before a blank card, before the next that opens, and at the end.
 unfoldable pub gathered : ℕ → List (List ℕ) → Hand → List Statement
 gathered n [] h = laid h []
 gathered n (c ∷ cs) h =
     elim (kindOf c) [
-      | Comment ↦ elim (closes Comment) [ true ↦ laid h (gathered (suc n) cs Nothing) | false ↦ gathered (suc n) cs h ]
-      | Empty ↦ elim (closes Empty) [ true ↦ laid h (gathered (suc n) cs Nothing) | false ↦ gathered (suc n) cs h ]
+      | Comment ↦ gathered (suc n) cs h
+      | Empty ↦ laid h (gathered (suc n) cs Nothing)
       | Opening ↦ laid h (gathered (suc n) cs (Held (record { card = n; further = []; field = fieldOf c })))
       | Continuing ↦ gathered (suc n) cs (folded n c h)
     ]

@@ -7,6 +7,7 @@ use native.Mathlib.Omega.{arith}
 use borrow.Author.Tests.{not-false}
 use lib.ListN.{length, length-append}
 use Rattle.decks.specs.declared.Answer.{Answer}
+use Rattle.decks.specs.declared.Answer.the-variants.{Fine}
 use Rattle.decks.specs.Answers.{Outcome, Got, Refused, refuse, afterwards}
 use Rattle.decks.specs.Readings.{walk}
 
@@ -15,6 +16,11 @@ refused-got e = let z : _≡_ {A = ℕ} 0 1 = cc in absurd (omega arith)
 
 pub got-eq : {A : Type 0} {x y : A} → Got x ≡ Got y → x ≡ y
 got-eq e = cc
+
+-- The answer that an outcome comes to: `Fine` with a result.
+abbrev pub answerOf : {A : Type 0} → Outcome A → Answer
+answerOf (Got x) = Fine
+answerOf (Refused a) = a
 
 -- ---- one refusal of a list of them
 
@@ -67,6 +73,11 @@ module _ {A S : Type 0} (f : ℕ → A → S → Outcome S) where
   pub walk-refused : (n : ℕ) (x : A) (xs : List A) (s : S) (a : Answer) → f n x s ≡ Refused a → walk f n (x ∷ xs) s ≡ Refused a
   unfolding walk
   walk-refused n x xs s a e = simp (e, walk)
+
+  -- The first member, and then the others.
+  pub walk-once : (n : ℕ) (x : A) (xs : List A) (s : S) → walk f n (x ∷ xs) s ≡ afterwards (f n x s) (λ t. walk f (suc n) xs t)
+  unfolding walk
+  walk-once n x xs s = elim (f n x s) as (λ r. _≡_ {A = Outcome S} (elim r [ Got t ↦ walk f (suc n) xs t | Refused a ↦ Refused a ]) (afterwards r (λ t. walk f (suc n) xs t))) [ Got t ↦ refl | Refused a ↦ refl ]
 
   -- A walk that comes to a result came to one at its first member, and went on from there.
   pub walk-first : (n : ℕ) (x : A) (xs : List A) (s u : S) → walk f n (x ∷ xs) s ≡ Got u → (t : S) × (f n x s ≡ Got t) × (walk f (suc n) xs t ≡ Got u)

@@ -16,8 +16,9 @@ use Rattle.logic.specs.Verdicts.{Verdict, Breaking, NotInitial as NotInitialSta
 use Rattle.logic.proofs.Cone.{cone-is}
 use Rattle.logic.proofs.Verdict.{accepted-exactly-when, refused-20-exactly-when, refused-21-exactly-when, refused-22-exactly-when}
 use Rattle.decks.specs.declared.Reply.{Reply}
-use Rattle.decks.specs.Answers.{Outcome, Got, replyOf}
+use Rattle.decks.specs.Answers.{Outcome, Got, Refused, replyOf}
 use Rattle.decks.specs.Stored.{stored, blank}
+use Rattle.decks.proofs.Outcomes.{answerOf}
 use Rattle.frames.specs.Written.{deckFrames}
 use Rattle.frames.specs.Read.{readDeck}
 use Rattle.frames.proofs.DeckTheorems.{deck-written-read, deck-read-written, deck-read-accepted}
@@ -26,7 +27,9 @@ use Rattle.cards.specs.Card.{cardsOf, Open, inForm}
 use Rattle.cards.specs.Statement.{Statement, inked, statementsOf}
 use Rattle.cards.specs.Typed.{Typed, spelt, deckOf, Fits}
 use Rattle.cards.specs.Read.{readCards}
+use Rattle.cards.specs.Comments.{uncommented, CommentsFormed, SameButComments, SamePlace}
 use Rattle.cards.proofs.NothingDropped.{nothing-dropped, cards-accepted}
+use Rattle.cards.proofs.CommentMeansNothing.{SameReply, comment-means-nothing, comment-same-reply}
 use Rattle.pieces.specs.Reduced.{allFrames, pieceBytes}
 use Rattle.pieces.proofs.Theorems.{pieces-read-back}
 use Rattle.claims.specs.Checked.{verdictAnswer, checked}
@@ -178,6 +181,36 @@ cards-accepted-exactly-when text r p = (
       let e : readCards text ≡ Got (deckOf t) = nothing-dropped text (deckOf t) .1 (short, form, (t, spells, fits, refl)) in
       ap (λ (x : DeckReply). x .number) (p ∙ ap readReply e),
 )
+
+-- Comment cards mean nothing. An accepted text stays accepted with any comments put in or taken out, if they are in form and it is not too long then: the reply is the same with the same deck, and so is all that is written of it, and all that it is reduced to, into a lent buffer.
+module _ (one other : List ℕ) (q : DeckReply) (reads : ReadsCards one q) (accepted : q .number ≡ 0) (same : uncommented (cardsOf one) ≡ uncommented (cardsOf other)) (formed : CommentsFormed (cardsOf other)) (short : length other ≤ base .text) where
+  same-deck : readCards other ≡ readCards one
+  same-deck =
+      let (d, e) = read-got (readCards one) (cards-numbered one) (sym (ap (λ (x : DeckReply). x .number) reads) ∙ accepted) in
+      comment-means-nothing one other d same formed short e ∙ sym e
+
+  pub comment-means-nothing-reads-cards : (s : DeckReply) → ReadsCards other s → s ≡ q
+  comment-means-nothing-reads-cards s p = p ∙ ap readReply same-deck ∙ sym reads
+
+  pub comment-means-nothing-writes-cards : (out : List ℕ) (r s : CountReply) (after later : List ℕ) → WritesCards one out r after → WritesCards other out s later → (s ≡ r) × (later ≡ after)
+  comment-means-nothing-writes-cards out r s after later (p, b) (o, c) = (o ∙ ap (λ (x : Outcome Deck). writeReply x out) same-deck ∙ sym p, c ∙ ap (λ (x : Outcome Deck). writeBuffer x out) same-deck ∙ sym b)
+
+  pub comment-means-nothing-reduces-cards : (out : List ℕ) (r s : CountReply) (after later : List ℕ) → ReducesCards one out r after → ReducesCards other out s later → (s ≡ r) × (later ≡ after)
+  comment-means-nothing-reduces-cards out r s after later (p, b) (o, c) = (o ∙ ap (λ (x : Outcome Deck). reduceReply x out) same-deck ∙ sym p, c ∙ ap (λ (x : Outcome Deck). reduceBuffer x out) same-deck ∙ sym b)
+
+abbrev told : DeckReply → Reply
+told r = record { number = r .number; text = r .text; place = r .place }
+
+read-told : (o : Outcome Deck) → told (readReply o) ≡ replyOf (answerOf o)
+read-told (Got d) = refl
+read-told (Refused a) = refl
+
+-- Two texts of the same cards but for comments, accepted or refused: the replies have one number and one text, and name one card by the number that it has in each text, or one variable.
+pub comment-same-refusal : (one other : List ℕ) (r s : DeckReply) → SameButComments one other → ReadsCards one r → ReadsCards other s
+    → (r .number ≡ s .number) × (r .text ≡ s .text) × SamePlace one other (r .number) (r .place) (s .place)
+comment-same-refusal one other r s same p q =
+    subst (λ (x : Reply). SameReply one other x (told s)) (sym (ap told p ∙ read-told (readCards one)))
+    (subst (SameReply one other (replyOf (answerOf (readCards one)))) (sym (ap told q ∙ read-told (readCards other))) (comment-same-reply one other same))
 
 -- A text of frames is accepted exactly when it is the frames of an accepted deck; the deck returned is that one.
 pub frames-accepted-exactly-when : (text : List ℕ) (r : DeckReply) → ReadsFrames text r → (r .number ≡ 0) ↔ ((d : Deck) × (text ≡ deckFrames d) × Accepted base d × (r .deck ≡ stored d))

@@ -106,13 +106,22 @@ none-open-6 : answer (more ∷ []) ≡ NoneOpen 1
 unfolding answer statement more repeated bytes joined ended unended fronted stands walk cardInForm opened kindOf every columns
 none-open-6 = refl
 
-comment-closes-6 : answer (statement ∷ bytes "C" ∷ more ∷ []) ≡ NoneOpen 3
+-- A comment closes nothing, and is no continuation; a blank card closes, be it numbered.
+comment-closes-nothing : answer (statement ∷ bytes "C" ∷ more ∷ bytes "*" ∷ bytes "C" ∷ more ∷ []) ≡ Fine
 unfolding answer statement more repeated bytes joined ended unended fronted stands walk cardInForm opened kindOf every columns
-comment-closes-6 = refl
+comment-closes-nothing = refl
+
+comment-opens-none-6 : answer (bytes "C" ∷ more ∷ []) ≡ NoneOpen 2
+unfolding answer statement more repeated bytes joined ended unended fronted stands walk cardInForm opened kindOf every columns
+comment-opens-none-6 = refl
 
 blank-closes-6 : answer (statement ∷ [] ∷ more ∷ []) ≡ NoneOpen 3
 unfolding answer statement more repeated bytes joined ended unended fronted stands walk cardInForm opened kindOf every columns
 blank-closes-6 = refl
+
+numbered-blank-closes-6 : answer (statement ∷ card [] (bytes "00000020") ∷ more ∷ []) ≡ NoneOpen 3
+unfolding answer statement more repeated bytes joined ended unended fronted stands walk cardInForm opened kindOf every columns
+numbered-blank-closes-6 = refl
 
 -- `0` alone in column 6 opens a statement.
 zero-opens : answer (bytes "     0" ∷ more ∷ []) ≡ Fine
@@ -126,6 +135,14 @@ nineteen = refl
 twenty-7 : answer (statement ∷ repeated 20 more) ≡ TooManyCards 21
 unfolding answer statement more repeated bytes joined ended unended fronted stands walk cardInForm opened kindOf every columns
 twenty-7 = refl
+
+comments-uncounted : answer (statement ∷ bytes "C" ∷ repeated 19 more ++ bytes "*" ∷ []) ≡ Fine
+unfolding answer statement more repeated bytes joined ended unended fronted stands walk cardInForm opened kindOf every columns
+comments-uncounted = refl
+
+twentieth-behind-comments-7 : answer (statement ∷ bytes "C" ∷ repeated 19 more ++ bytes "*" ∷ more ∷ []) ≡ TooManyCards 23
+unfolding answer statement more repeated bytes joined ended unended fronted stands walk cardInForm opened kindOf every columns
+twentieth-behind-comments-7 = refl
 
 -- Two faults on one card: the lower number.
 two-and-three : answer ((replicate 80 blank ++ 9 ∷ []) ∷ []) ≡ BadByte 1

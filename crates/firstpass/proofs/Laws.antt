@@ -20,7 +20,7 @@ use Rattle.decks.specs.Readings.{walk}
 use Rattle.decks.proofs.Outcomes.{walk-got, walk-refused}
 use Rattle.ends.specs.Ends.{lineLength}
 use Rattle.ends.proofs.Laws.{ended-at, unended-at, ended-last, unended-last}
-use Rattle.cards.specs.Card.{lastCard, cardsOf, blank, cardColumns, fieldStart, fieldEnd, fieldColumns, continuations, column, columns, every, isBlank, isDigit, printable, isComment, numbered, Kind, Comment, Empty, Opening, Continuing, kindOf, closes, Open, Shut, Continued, opened, cardInForm, inForm}
+use Rattle.cards.specs.Card.{lastCard, cardsOf, blank, cardColumns, fieldStart, fieldEnd, fieldColumns, continuations, column, columns, every, isBlank, isDigit, printable, isComment, numbered, Kind, Comment, Empty, Opening, Continuing, kindOf, Open, Shut, Continued, opened, cardInForm, inForm}
 use Rattle.firstpass.specs.declared.CardKind.{CardKind}
 use Rattle.firstpass.specs.declared.CardKind.the-variants.{Comment as CommentCard, Empty as EmptyCard, Opening as OpeningCard, Continuing as ContinuingCard}
 use Rattle.firstpass.specs.declared.Carded.{Carded}
@@ -300,26 +300,15 @@ module _ (card : List ℕ) where
 -- ---- the open statement
 
 module _ (n : ℕ) where
-  shut : (k : Kind) (o : Open) → closes k ≡ true → Got Shut ≡ opened n k o
-  unfolding opened
-  shut Comment o e = ap (λ (t : Bool). Got (elim t [ true ↦ Shut | false ↦ o ])) (sym e)
-  shut Empty o e = ap (λ (t : Bool). Got (elim t [ true ↦ Shut | false ↦ o ])) (sym e)
-  shut Opening o e = let z : _≡_ {A = ℕ} 0 1 = cc in absurd (omega arith)
-  shut Continuing o e = let z : _≡_ {A = ℕ} 0 1 = cc in absurd (omega arith)
-
-  module _ (kind : CardKind) (hand : ℕ) (b : Bool) where
-    pub card-closes : b ≡ closes (kindIs kind) → b ≡ true → Got Shut ≡ opened n (kindIs kind) (openOf hand)
-    card-closes e q = shut (kindIs kind) (openOf hand) (sym e ∙ q)
-
-    pub comment-passes : b ≡ closes (kindIs kind) → b ≡ false → kind ≡ CommentCard → Got (openOf hand) ≡ opened n (kindIs kind) (openOf hand)
-    unfolding opened
-    comment-passes e q k = rw k (ap (λ (t : Bool). Got (elim t [ true ↦ Shut | false ↦ openOf hand ])) (sym q ∙ e ∙ ap (λ (c : CardKind). closes (kindIs c)) k))
-
-    pub empty-passes : b ≡ closes (kindIs kind) → b ≡ false → kind ≡ EmptyCard → Got (openOf hand) ≡ opened n (kindIs kind) (openOf hand)
-    unfolding opened
-    empty-passes e q k = rw k (ap (λ (t : Bool). Got (elim t [ true ↦ Shut | false ↦ openOf hand ])) (sym q ∙ e ∙ ap (λ (c : CardKind). closes (kindIs c)) k))
-
   module _ (kind : CardKind) (hand : ℕ) where
+    pub comment-passes : kind ≡ CommentCard → Got (openOf hand) ≡ opened n (kindIs kind) (openOf hand)
+    unfolding opened
+    comment-passes k = rw k refl
+
+    pub blank-closes : kind ≡ EmptyCard → Got Shut ≡ opened n (kindIs kind) (openOf hand)
+    unfolding opened
+    blank-closes k = rw k refl
+
     pub card-opens : kind ≡ OpeningCard → Got (Continued 0) ≡ opened n (kindIs kind) (openOf hand)
     unfolding opened
     card-opens k = rw k refl
@@ -346,7 +335,8 @@ module _ (n : ℕ) where
 
 -- ---- one card: 2 to 7 in number order
 
-free-comment : (card : List ℕ) → free (kindOf card) ≡ isComment card
+-- The kinds that 4 and 5 pass over are those of comments.
+pub free-comment : (card : List ℕ) → free (kindOf card) ≡ isComment card
 unfolding kindOf
 free-comment card = go (isComment card) (every isBlank (columns 1 fieldEnd card)) (isBlank (column 6 card) || eqb (column 6 card) 48)
   where

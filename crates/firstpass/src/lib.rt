@@ -4,7 +4,7 @@ ghost use mathlib.Core.Bool.{not, _&&_};
 ghost use Prim.Native.Nat.{_+_, _-_, _<_, _≤_, min};
 ghost use lib.Dec.{leb};
 ghost use lib.ListN.{length, take, drop};
-ghost use Rattle.cards.specs.Card.{cardsOf, fieldStart, fieldEnd, column, columns, every, isBlank, printable, isComment, Continuing, numbered, kindOf, closes, opened, cardInForm, inForm};
+ghost use Rattle.cards.specs.Card.{cardsOf, fieldStart, fieldEnd, column, columns, every, isBlank, printable, isComment, Continuing, numbered, kindOf, opened, cardInForm, inForm};
 ghost use Rattle.firstpass.specs.Passed.{between, free, kindIs, openOf, outcomeOf, passed};
 use decks::Answer;
 use ends::line_end;
@@ -188,18 +188,6 @@ pub fn kind_of(card: &[u8]) -> CardKind
     CardKind::Continuing
 }
 
-// The cards that close the open statement and open none.
-pub fn closes(kind: CardKind) -> bool
-    ensures { λ r. ⌜ r ≡ closes (kindIs kind) ⌝ }
-{
-    match kind {
-        CardKind::Comment => true,
-        CardKind::Empty => true,
-        CardKind::Opening => false,
-        CardKind::Continuing => false,
-    }
-}
-
 // The statement field as it stands on the card: from its seventh byte to at most its seventy-second.
 pub fn field<'a>(card: &'a [u8]) -> &'a [u8]
     ensures { λ r. ⌜ now r ≡ drop (fieldStart - 1) (take fieldEnd (now (card .entry))) ⌝ }
@@ -248,12 +236,9 @@ fn continued(n: u64, hand: u64) -> Carded
 fn opened(n: u64, kind: CardKind, hand: u64) -> Carded
     ensures { λ r. ⌜ outcomeOf r ≡ opened n (kindIs kind) (openOf hand) ⌝ }
 {
-    if closes(kind) {
-        return Carded::Next(0);
-    }
     match kind {
         CardKind::Comment => Carded::Next(hand),
-        CardKind::Empty => Carded::Next(hand),
+        CardKind::Empty => Carded::Next(0),
         CardKind::Opening => Carded::Next(1),
         CardKind::Continuing => continued(n, hand),
     }

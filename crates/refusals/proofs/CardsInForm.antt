@@ -1,7 +1,7 @@
 -- The first pass over the cards refuses exactly where a fault of 2 to 7 is the first.
 use mathlib.Core.Path.{_≡_, refl, sym, ap, _∙_, subst}
 use mathlib.Core.Logic.{_⊎_, inl, inr, ⊎-elim, by-cases, _↔_}
-use mathlib.Core.Bool.{Bool, true, false, _||_}
+use mathlib.Core.Bool.{Bool, true, false, not, _||_}
 use mathlib.Core.List.{List, [], _∷_}
 use Prim.Native.Nat.{ℕ, zero, suc, _+_, _<_, _≤_}
 use Prim.Native.Char.{code as character}
@@ -10,11 +10,14 @@ use native.Mathlib.Decide.{decLt, ℕ-discrete}
 use borrow.Author.Tests.{eq-eqb, eqb-true, eqb-false, ltb-true, ltb-false}
 use lib.Dec.{eqb, ltb}
 use lib.ListN.{length}
+use Rattle.lists.specs.Lists.{keep}
+use Rattle.lists.proofs.Laws.{keep-pass, keep-fail}
 use Rattle.decks.specs.declared.Answer.{Answer}
 use Rattle.decks.specs.declared.Answer.the-variants.{BadByte, TooWide, BadStart, NoneOpen, TooManyCards}
 use Rattle.decks.specs.Answers.{Outcome, Got, Refused}
 use Rattle.cards.specs.Card.{blank, continuations, columns, every, isBlank, isComment, Kind, Comment, Empty, Opening, Continuing, kindOf, Open, Shut, Continued, opened, cardInForm, inForm}
 use Rattle.cards.specs.Columns.{punched, remark}
+use Rattle.cards.specs.Comments.{uncommented}
 use Rattle.cards.proofs.ColumnLaws.{every-column}
 use Rattle.cards.proofs.CardsExactlyWhen.{BytesIn, StartBlank, card-comes, column-every}
 use Rattle.refusals.specs.Order.{Conditions, Done, Try, FirstOf, oneByOne, backwards}
@@ -58,7 +61,7 @@ start-punched card r n =
 -- What the kind of a card says of its columns.
 abbrev KindIs : List ℕ → Kind → Type 0
 KindIs card Comment = remark card ≡ true
-KindIs card Empty = (c : ℕ) → 1 ≤ c → c ≤ 72 → punched card c ≡ character " "
+KindIs card Empty = (remark card ≡ false) × ((c : ℕ) → 1 ≤ c → c ≤ 72 → punched card c ≡ character " ")
 KindIs card Opening = Opens card
 KindIs card Continuing = Continues card
 
@@ -88,7 +91,7 @@ kind-is card = comment (isComment card) refl
         (r, eqb-false (punched card 6) blank s, eqb-false (punched card 6) (character "0") t)
 
     empty : (t : Bool) → every isBlank (columns 1 72 card) ≡ t → remark card ≡ false → KindIs card (elim t [ true ↦ Empty | false ↦ elim (eqb (punched card 6) blank || eqb (punched card 6) (character "0")) [ true ↦ Opening | false ↦ Continuing ] ])
-    empty true e r = λ c l h. eqb-true (punched card c) blank (every-column isBlank 1 72 card (omega arith) e c l h)
+    empty true e r = (r, λ c l h. eqb-true (punched card c) blank (every-column isBlank 1 72 card (omega arith) e c l h))
     empty false e r = sixth (eqb (punched card 6) blank || eqb (punched card 6) (character "0")) refl r e
 
     comment : (t : Bool) → isComment card ≡ t → KindIs card (elim t [
@@ -102,15 +105,12 @@ opens-continues : (card : List ℕ) → Opens card → Continues card → ⊥
 opens-continues card (r, inl e, p) (s, n, m) = n e
 opens-continues card (r, inr e, p) (s, n, m) = m e
 
--- A card that is a comment or blank neither opens nor continues.
-abbrev Closes : List ℕ → Type 0
-Closes card = (Opens card → ⊥) × (Continues card → ⊥)
+-- A blank card neither opens nor continues.
+empty-opens-none : (card : List ℕ) → KindIs card Empty → Opens card → ⊥
+empty-opens-none card (r, f) (s, p, (c, l, h, n)) = n (f c l h)
 
-comment-closes : (card : List ℕ) → KindIs card Comment → Closes card
-comment-closes card e = (λ h. true-false (sym e ∙ h .0), λ h. true-false (sym e ∙ h .0))
-
-empty-closes : (card : List ℕ) → KindIs card Empty → Closes card
-empty-closes card f = (λ (r, p, (c, l, h, n)). n (f c l h), λ (r, n, m). n (f 6 (omega arith) (omega arith)))
+empty-continues-none : (card : List ℕ) → KindIs card Empty → Continues card → ⊥
+empty-continues-none card (r, f) (s, n, m) = n (f 6 (omega arith) (omega arith))
 
 -- ---- the open statement
 
@@ -120,14 +120,25 @@ open-unique (c ∷ cs) zero (suc j) p (q, r) = absurd (opens-continues c p q)
 open-unique (c ∷ cs) (suc k) zero (p, r) q = absurd (opens-continues c q p)
 open-unique (c ∷ cs) (suc k) (suc j) (p, r) (q, s) = ap suc (open-unique cs k j r s)
 
-closed-none : (card : List ℕ) (back : List (List ℕ)) → Closes card → (k : ℕ) → OpenOver k (card ∷ back) → ⊥
-closed-none card back (o, c) zero p = o p
-closed-none card back (o, c) (suc k) (p, q) = c p
+closed-none : (card : List ℕ) (back : List (List ℕ)) → (Opens card → ⊥) → (Continues card → ⊥) → (k : ℕ) → OpenOver k (card ∷ back) → ⊥
+closed-none card back o c zero p = o p
+closed-none card back o c (suc k) (p, q) = c p
+
+-- What the open statement is behind cards that are no comments.
+abbrev StandsOver : List (List ℕ) → Open → Type 0
+StandsOver back Shut = (k : ℕ) → OpenOver k back → ⊥
+StandsOver back (Continued k) = OpenOver k back × (k ≤ continuations)
 
 -- What the first pass knows of the cards so far.
 abbrev pub Stands : List (List ℕ) → Open → Type 0
-Stands back Shut = (k : ℕ) → OpenOver k back → ⊥
-Stands back (Continued k) = OpenOver k back × (k ≤ continuations)
+Stands back o = StandsOver (uncommented back) o
+
+-- A comment is left out of the cards so far, any other card is one of them.
+comment-stands : (card : List ℕ) (back : List (List ℕ)) (o : Open) → remark card ≡ true → StandsOver (uncommented back) o → Stands (card ∷ back) o
+comment-stands card back o r s = subst (λ (cs : List (List ℕ)). StandsOver cs o) (sym (keep-fail (λ (c : List ℕ). not (remark c)) card back (ap not r))) s
+
+card-stands : (card : List ℕ) (back : List (List ℕ)) (o : Open) → remark card ≡ false → StandsOver (card ∷ uncommented back) o → Stands (card ∷ back) o
+card-stands card back o r s = subst (λ (cs : List (List ℕ)). StandsOver cs o) (sym (keep-pass (λ (c : List ℕ). not (remark c)) card back (ap not r))) s
 
 module _ (n : ℕ) (back : List (List ℕ)) (card : List ℕ) where
   -- 6 and 7.
@@ -138,21 +149,21 @@ module _ (n : ℕ) (back : List (List ℕ)) (card : List ℕ) where
   passed-meets : (o : Open) → (Continues card → ⊥) → Stands (card ∷ back) o → Meets openFaults (Stands (card ∷ back)) (Got o)
   passed-meets o c s = meets-past _ _ _ _ _ (λ h. c (h .0)) (meets-past _ _ _ _ _ (λ h. c (h .0)) (meets-got _ o s))
 
-  closed-meets : Closes card → Meets openFaults (Stands (card ∷ back)) (Got Shut)
-  closed-meets c = passed-meets Shut (c .1) (closed-none card back c)
-
   opened-meets : (k : Kind) (o : Open) → KindIs card k → Stands back o → Meets openFaults (Stands (card ∷ back)) (opened n k o)
   unfolding opened
-  opened-meets Comment o e s = closed-meets (comment-closes card e)
-  opened-meets Empty o e s = closed-meets (empty-closes card e)
-  opened-meets Opening o e s = passed-meets (Continued 0) (opens-continues card e) (e, omega arith)
+  opened-meets Comment o e s = passed-meets o (λ h. true-false (sym e ∙ h .0)) (comment-stands card back o e s)
+  opened-meets Empty o e s =
+      passed-meets Shut (empty-continues-none card e) (card-stands card back Shut (e .0) (closed-none card (uncommented back) (empty-opens-none card e) (empty-continues-none card e)))
+  opened-meets Opening o e s = passed-meets (Continued 0) (opens-continues card e) (card-stands card back (Continued 0) (e .0) (e, omega arith))
   opened-meets Continuing Shut e s = meets-here _ _ _ _ (e, s)
   opened-meets Continuing (Continued k) e (s, l) =
       meets-past (ContinuesNone back card) (NoneOpen n) _ (Stands (card ∷ back)) _ (λ h. h .1 k s)
       (meets-test (Twentieth back card) (TooManyCards n) Done (Stands (card ∷ back)) (ltb continuations (k + 1)) (Got (Continued (k + 1)))
-      (λ t. let full : k ≡ continuations = omega (arith, ltb-true continuations (k + 1) t) in (e, subst (λ (j : ℕ). OpenOver j back) full s))
-      (λ t h. let full = open-unique back k continuations s (h .1) in omega (arith, ltb-false continuations (k + 1) t))
-      (λ t. let more : suc k ≡ k + 1 = omega arith in meets-got _ _ (subst (λ (j : ℕ). OpenOver j (card ∷ back)) more (e, s), ltb-false continuations (k + 1) t)))
+      (λ t. let full : k ≡ continuations = omega (arith, ltb-true continuations (k + 1) t) in (e, subst (λ (j : ℕ). OpenOver j (uncommented back)) full s))
+      (λ t h. let full = open-unique (uncommented back) k continuations s (h .1) in omega (arith, ltb-false continuations (k + 1) t))
+      (λ t.
+      let more : suc k ≡ k + 1 = omega arith in
+      meets-got _ _ (card-stands card back (Continued (k + 1)) (e .0) (subst (λ (j : ℕ). OpenOver j (card ∷ uncommented back)) more (e, s), ltb-false continuations (k + 1) t))))
 
   -- Card n meets its faults in their order.
   pub card-meets : (o : Open) → Stands back o → Meets (cardFaults n back card) (Stands (card ∷ back)) (cardInForm n card o)
@@ -194,6 +205,7 @@ module _ (n : ℕ) (back : List (List ℕ)) (card : List ℕ) where
 
 -- All cards meet their faults, card by card.
 pub form-meets : (cards : List (List ℕ)) → Meets (oneByOne cardFaults 1 [] cards) (Stands (backwards [] cards)) (inForm cards)
+unfolding keep
 form-meets cards = meets-walk cardInForm cardFaults Stands (λ back card o s. card-meets (suc (length back)) back card o s) cards [] Shut (λ k h. h)
 
 -- The first pass refuses exactly where the answer is that of the first fault, card by card, 2 to 7 in number order.

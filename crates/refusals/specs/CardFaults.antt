@@ -9,6 +9,7 @@ use lib.ListN.{length}
 use Rattle.lists.specs.Lists.{Some}
 use Rattle.decks.specs.declared.Answer.the-variants.{BadByte, TooWide, BadStart, BadNumber, NoneOpen, TooManyCards}
 use Rattle.cards.specs.Columns.{punched, remark}
+use Rattle.cards.specs.Comments.{uncommented}
 use Rattle.cards.specs.Card.{continuations}
 use Rattle.refusals.specs.Order.{Conditions, Done, Try}
 
@@ -48,13 +49,13 @@ OpenOver k [] = ⊥
 OpenOver zero (c ∷ cs) = Opens c
 OpenOver (suc k) (c ∷ cs) = Continues c × OpenOver k cs
 
--- 6: it continues, and no statement is open.
+-- 6: it continues, and no statement is open. Comments among the cards before it are left out.
 abbrev pub ContinuesNone : List (List ℕ) → List ℕ → Type 0
-ContinuesNone back card = Continues card × ((k : ℕ) → OpenOver k back → ⊥)
+ContinuesNone back card = Continues card × ((k : ℕ) → OpenOver k (uncommented back) → ⊥)
 
--- 7: it continues a statement that nineteen cards before it continue.
+-- 7: it continues a statement that nineteen cards before it continue, comments left out.
 abbrev pub Twentieth : List (List ℕ) → List ℕ → Type 0
-Twentieth back card = Continues card × OpenOver continuations back
+Twentieth back card = Continues card × OpenOver continuations (uncommented back)
 
 -- Card n behind the cards given: 2 to 7 in number order.
 abbrev pub cardFaults : ℕ → List (List ℕ) → List ℕ → Conditions

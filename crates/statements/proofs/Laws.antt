@@ -10,24 +10,24 @@ use native.Mathlib.Decide.{decLt}
 use lib.Dec.{ltb, eqb}
 use lib.ListN.{length, take, drop, getD, set, replicate, length-append, length-take, length-drop, length-replicate, drop-of-length-le, List·getD-eq-default}
 use lib.Seq.{take-all, take-suc, getD-take, getD-drop}
-use borrow.Author.Tests.{ltb-false}
+use borrow.Author.Tests.{ltb-false, eqb-true, not-true, not-false}
 use Rattle.lists.specs.Lists.{splice, ended, unended}
 use Rattle.lists.proofs.Laws.{getD-any, getD-filled, padded-append, padded-snoc, splice-nothing, splice-splice, set-splice, length-splice}
 use Rattle.decks.specs.declared.Answer.the-variants.{BadByte, TooWide, BadStart, BadNumber, TooManyCards}
 use Rattle.decks.specs.Answers.{Outcome, Got, Refused, refuse}
 use Rattle.decks.specs.Readings.{walk}
 use Rattle.decks.proofs.Outcomes.{got-eq, refuse-got, refuse-not}
-use Rattle.cards.specs.Card.{cardsOf, blank, cardColumns, every, isBlank, isComment, printable, numbered, fieldStart, fieldEnd, column, columns, continuations, Kind, Comment, Empty, Opening, Continuing, kindOf, closes, Open, Shut, Continued, opened, cardInForm}
+use Rattle.cards.specs.Card.{cardsOf, blank, cardColumns, every, isBlank, isComment, printable, numbered, fieldStart, fieldEnd, column, columns, continuations, Kind, Comment, Empty, Opening, Continuing, kindOf, Open, Shut, Continued, opened, cardInForm}
 use Rattle.cards.specs.Statement.{Statement, Nothing, Held, laid, gathered, fieldOf}
 use Rattle.firstpass.specs.declared.CardKind.{CardKind}
 use Rattle.firstpass.specs.declared.CardKind.the-variants.{Continuing as ContinuingCard}
-use Rattle.firstpass.specs.Passed.{kindIs}
+use Rattle.firstpass.specs.Passed.{free, kindIs}
 use Rattle.ends.specs.Ends.{lineLength}
-use Rattle.firstpass.proofs.Laws.{cards-next, field-filled}
+use Rattle.firstpass.proofs.Laws.{cards-next, field-filled, free-comment}
 use Rattle.statements.specs.declared.Stmt.{Stmt}
 use Rattle.statements.specs.declared.Place.{Place}
 use Rattle.statements.specs.declared.Taken.{Taken}
-use Rattle.statements.specs.Hold.{held, stmtOf, Room, filled, withCard, foldedIn, opens, continues, continued, Formed, cardAt, Placed, AtOpening, FirstOf, Takes}
+use Rattle.statements.specs.Hold.{held, stmtOf, Room, filled, withCard, foldedIn, opens, ends, continues, continued, Formed, cardAt, Placed, AtOpening, FirstOf, Takes}
 
 -- ---- a field put behind those in hand
 
@@ -124,14 +124,10 @@ opening-is Opening e = refl
 opening-is Continuing e = let z : _≡_ {A = ℕ} 0 1 = cc in absurd (omega arith)
 
 -- Before a card that ends it the statement in hand is laid down.
-closed-before : (b : Bool) (s : Statement) (xs ys : List Statement) → (b || false) ≡ true → elim b [ true ↦ laid (Held s) xs | false ↦ ys ] ≡ s ∷ elim b [ true ↦ xs | false ↦ xs ]
-closed-before true s xs ys e = refl
-closed-before false s xs ys e = let z : _≡_ {A = ℕ} 0 1 = cc in absurd (omega arith)
-
-laid-down : (n : ℕ) (c : List ℕ) (cs : List (List ℕ)) (s : Statement) (k : Kind) → k ≡ kindOf c → (closes k || opens k) ≡ true → gathered n (c ∷ cs) (Held s) ≡ s ∷ gathered n (c ∷ cs) Nothing
+laid-down : (n : ℕ) (c : List ℕ) (cs : List (List ℕ)) (s : Statement) (k : Kind) → k ≡ kindOf c → ends k ≡ true → gathered n (c ∷ cs) (Held s) ≡ s ∷ gathered n (c ∷ cs) Nothing
 unfolding gathered
-laid-down n c cs s Comment e o = simp (← e, gathered) (closed-before (closes Comment) s (gathered (suc n) cs Nothing) (gathered (suc n) cs (Held s)) o)
-laid-down n c cs s Empty e o = simp (← e, gathered) (closed-before (closes Empty) s (gathered (suc n) cs Nothing) (gathered (suc n) cs (Held s)) o)
+laid-down n c cs s Comment e o = let z : _≡_ {A = ℕ} 0 1 = cc in absurd (omega arith)
+laid-down n c cs s Empty e o = simp (← e, gathered)
 laid-down n c cs s Opening e o = simp (← e, gathered)
 laid-down n c cs s Continuing e o = let z : _≡_ {A = ℕ} 0 1 = cc in absurd (omega arith)
 
@@ -142,14 +138,10 @@ goneOn Empty n c s = s
 goneOn Opening n c s = s
 goneOn Continuing n c s = record { card = s .card; further = s .further ++ (n ∷ []); field = s .field ++ fieldOf c }
 
-kept-on : (b : Bool) (xs ys : List Statement) → (b || false) ≡ false → elim b [ true ↦ xs | false ↦ ys ] ≡ ys
-kept-on true xs ys e = let z : _≡_ {A = ℕ} 0 1 = cc in absurd (omega arith)
-kept-on false xs ys e = refl
-
-gone-on : (n : ℕ) (c : List ℕ) (cs : List (List ℕ)) (s : Statement) (k : Kind) → k ≡ kindOf c → (closes k || opens k) ≡ false → gathered n (c ∷ cs) (Held s) ≡ gathered (suc n) cs (Held (goneOn k n c s))
+gone-on : (n : ℕ) (c : List ℕ) (cs : List (List ℕ)) (s : Statement) (k : Kind) → k ≡ kindOf c → ends k ≡ false → gathered n (c ∷ cs) (Held s) ≡ gathered (suc n) cs (Held (goneOn k n c s))
 unfolding gathered
-gone-on n c cs s Comment e o = simp (← e, gathered) (kept-on (closes Comment) (s ∷ gathered (suc n) cs Nothing) (gathered (suc n) cs (Held s)) o)
-gone-on n c cs s Empty e o = simp (← e, gathered) (kept-on (closes Empty) (s ∷ gathered (suc n) cs Nothing) (gathered (suc n) cs (Held s)) o)
+gone-on n c cs s Comment e o = simp (← e, gathered)
+gone-on n c cs s Empty e o = let z : _≡_ {A = ℕ} 0 1 = cc in absurd (omega arith)
 gone-on n c cs s Opening e o = let z : _≡_ {A = ℕ} 0 1 = cc in absurd (omega arith)
 gone-on n c cs s Continuing e o = simp (← e, gathered)
 
@@ -264,15 +256,11 @@ few-on : (n j : ℕ) (q : Open) → opened n Continuing (Continued j) ≡ Got q 
 unfolding opened
 few-on n j q e = ltb-false 19 (j + 1) (refuse-not (ltb continuations (j + 1)) (TooManyCards n) (Got (Continued (j + 1))) q e)
 
-kept-open : (b : Bool) (o : Open) → (b || false) ≡ false → elim b [ true ↦ Shut | false ↦ o ] ≡ o
-kept-open true o e = let z : _≡_ {A = ℕ} 0 1 = cc in absurd (omega arith)
-kept-open false o e = refl
-
 -- The open statement and the one in hand have the same continuations.
-state-on : (n : ℕ) (c : List ℕ) (s : Statement) (k : Kind) (q : Open) → (closes k || opens k) ≡ false → opened n k (Continued (length (s .further))) ≡ Got q → q ≡ Continued (length (goneOn k n c s .further))
+state-on : (n : ℕ) (c : List ℕ) (s : Statement) (k : Kind) (q : Open) → ends k ≡ false → opened n k (Continued (length (s .further))) ≡ Got q → q ≡ Continued (length (goneOn k n c s .further))
 unfolding opened
-state-on n c s Comment q o e = sym (got-eq e) ∙ kept-open (closes Comment) (Continued (length (s .further))) o
-state-on n c s Empty q o e = sym (got-eq e) ∙ kept-open (closes Empty) (Continued (length (s .further))) o
+state-on n c s Comment q o e = sym (got-eq e)
+state-on n c s Empty q o e = let z : _≡_ {A = ℕ} 0 1 = cc in absurd (omega arith)
 state-on n c s Opening q o e = let z : _≡_ {A = ℕ} 0 1 = cc in absurd (omega arith)
 state-on n c s Continuing q o e =
     let j : ℕ = length (s .further) in
@@ -339,7 +327,7 @@ module _ (text : List ℕ) (at n i k : ℕ) (stmt : Stmt) where
     room t h e d g = let f = few t h e d g in rw (t .is) (omega (arith, t .long), omega arith)
 
     -- A card that does not end the statement is folded into it.
-    pub gone : (next : Stmt) → Taking text at n stmt i k → i < length text → EndsHere → IsKind → b ≡ (closes (kindIs kd) || opens (kindIs kd)) → b ≡ false → next ≡ foldedIn stmt (kindIs kd) k card → Taking text at n next (end + 1) (k + 1)
+    pub gone : (next : Stmt) → Taking text at n stmt i k → i < length text → EndsHere → IsKind → b ≡ ends (kindIs kd) → b ≡ false → next ≡ foldedIn stmt (kindIs kd) k card → Taking text at n next (end + 1) (k + 1)
     gone next t h e d p f s =
         let w = step t h e d in
         let st : Statement = goneOn (kindIs kd) k card (t .inHand) in
@@ -355,7 +343,7 @@ module _ (text : List ℕ) (at n i k : ℕ) (stmt : Stmt) where
         }
 
     -- Before a card that ends it the statement is taken.
-    pub taken-before : Taking text at n stmt i k → i < length text → EndsHere → IsKind → b ≡ (closes (kindIs kd) || opens (kindIs kd)) → b ≡ true → Takes text at n (record { found = true; stmt = stmt; at = i; n = k })
+    pub taken-before : Taking text at n stmt i k → i < length text → EndsHere → IsKind → b ≡ ends (kindIs kd) → b ≡ true → Takes text at n (record { found = true; stmt = stmt; at = i; n = k })
     taken-before t h e d p f =
         let next : cardsOf (drop i text) ≡ card ∷ cards = cards-next text i end h e in
         taken
@@ -376,7 +364,7 @@ none-taken text at n p stmt a h s =
     let none : gathered (p .n) (cardsOf (drop (p .at) text)) Nothing ≡ [] = rw (no-cards text (p .at) h) refl in
     record { first = rw (a .same, none) (refl, s, refl); onward = λ e. let z : _≡_ {A = ℕ} 0 1 = cc in absurd (omega arith); near = a .placed .near; formed = a .placed .formed }
 
--- ---- whether the next card continues the statement
+-- ---- whether a card continues the statement before it
 
 -- A kind by its three tests: a comment, a blank card, a card with a blank or `0` in column 6.
 abbrev kindBy : Bool → Bool → Bool → Kind
@@ -398,47 +386,79 @@ blank-mark card e =
     ∙ not-continuing (isComment card) (every isBlank (columns 1 fieldEnd card))
 
 module _ (text : List ℕ) (at : ℕ) where
-  -- What follows is told by the card that begins there.
-  told-by : at < length text → column 6 (cardAt text at) ≡ blank → false ≡ continued (cardsOf (drop at text))
-  told-by h e =
-      let end : ℕ = at + lineLength (drop at text) in
-      let long : lineLength (drop at text) ≡ end - at = omega arith in
-      sym
-      (ap continued (cards-next text at end h refl)
-      ∙ ap (λ (k : ℕ). continues (kindOf (take k (drop at text)))) (sym long)
-      ∙ blank-mark (cardAt text at) e)
-
-  pub short-continues : length text ≤ at + 5 → false ≡ continued (cardsOf (drop at text))
+  pub short-continues : length text ≤ at + 5 → false ≡ continues (kindOf (cardAt text at))
   short-continues h =
-      by-cases
-      (decLt at (length text))
-      (λ l. told-by l (List·getD-eq-default (cardAt text at) blank {n = 5} (omega (arith, length-take (lineLength (drop at text)) (drop at text), length-drop at text))))
-      (λ n. ap continued (sym (no-cards text at (omega arith))))
+      sym (blank-mark (cardAt text at) (List·getD-eq-default (cardAt text at) blank {n = 5} (omega (arith, length-take (lineLength (drop at text)) (drop at text), length-drop at text))))
 
-  pub blank-continues : at + 5 < length text → getD text (at + 5) 0 ≡ 32 → false ≡ continued (cardsOf (drop at text))
+  pub blank-continues : at + 5 < length text → getD text (at + 5) 0 ≡ 32 → false ≡ continues (kindOf (cardAt text at))
   blank-continues h e =
       let d : List ℕ = drop at text in
-      told-by
-      (omega arith)
+      sym
+      (blank-mark
+      (cardAt text at)
       (by-cases
       (decLt 5 (lineLength d))
       (λ l. getD-take (lineLength d) d 5 blank l ∙ getD-drop at text 5 blank ∙ getD-any text (at + 5) blank 0 h ∙ e)
-      (λ n. List·getD-eq-default (cardAt text at) blank {n = 5} (omega (arith, length-take (lineLength d) d))))
+      (λ n. List·getD-eq-default (cardAt text at) blank {n = 5} (omega (arith, length-take (lineLength d) d)))))
 
-pub next-continues : (text : List ℕ) (at end : ℕ) (kd : CardKind) (b : Bool) → at + 5 < length text → end ≡ at + lineLength (drop at text) → kindIs kd ≡ kindOf (take (end - at) (drop at text)) → b ≡ continues (kindIs kd) → b ≡ continued (cardsOf (drop at text))
-next-continues text at end kd b h e q p = p ∙ ap continues q ∙ ap continued (sym (cards-next text at end (omega arith) e))
+  pub mark-continues : (end : ℕ) (kd : CardKind) (b : Bool) → end ≡ at + lineLength (drop at text) → kindIs kd ≡ kindOf (take (end - at) (drop at text)) → b ≡ continues (kindIs kd) → b ≡ continues (kindOf (cardAt text at))
+  mark-continues end kd b e q p =
+      let long : end - at ≡ lineLength (drop at text) = omega arith in
+      p ∙ ap continues q ∙ ap (λ (k : ℕ). continues (kindOf (take k (drop at text)))) long
 
--- A statement that the next card does not continue is laid down before it.
+-- ---- whether the next card that is no comment does
+
+-- A text begins as a comment does exactly where its first card is one.
+begins-comment : (d : List ℕ) → isComment d ≡ isComment (take (lineLength d) d)
+unfolding lineLength
+begins-comment [] = refl
+begins-comment (x ∷ xs) = go (eqb x 10) refl
+  where
+    go : (t : Bool) → eqb x 10 ≡ t → isComment (x ∷ xs) ≡ isComment (take (elim t [ true ↦ 0 | false ↦ suc (lineLength xs) ]) (x ∷ xs))
+    go true e = rw (eqb-true x 10 e) refl
+    go false e = refl
+
+module _ (text : List ℕ) (at i : ℕ) where
+  -- The answer is that of the cards from place i on.
+  abbrev Left : Type 0
+  Left = continued (cardsOf (drop at text)) ≡ continued (cardsOf (drop i text))
+
+  module _ (b : Bool) where
+    abbrev Begins : Type 0
+    Begins = b ≡ isComment (take (length text - i) (drop i text))
+
+    looked-at : (end : ℕ) → i < length text → Left → Begins → end ≡ i + lineLength (drop i text) → continued (cardsOf (drop at text)) ≡ elim b [ true ↦ continued (cardsOf (drop (end + 1) text)) | false ↦ continues (kindOf (cardAt text i)) ]
+    looked-at end h l c e =
+        let d : List ℕ = drop i text in
+        let long : end - i ≡ lineLength d = omega arith in
+        let is : isComment (cardAt text i) ≡ b = sym (c ∙ ap isComment (take-all (length text - i) d (omega (arith, length-drop i text))) ∙ begins-comment d) in
+        l
+        ∙ ap continued (cards-next text i end h e ∙ ap (λ (k : ℕ). take k d ∷ cardsOf (drop (end + 1) text)) long)
+        ∙ ap (λ (t : Bool). elim t [ true ↦ continued (cardsOf (drop (end + 1) text)) | false ↦ continues (kindOf (cardAt text i)) ]) is
+
+    pub no-comment : (r : Bool) → i < length text → Left → Begins → not b ≡ true → r ≡ continues (kindOf (cardAt text i)) → r ≡ continued (cardsOf (drop at text))
+    no-comment r h l c n e =
+        let end : ℕ = i + lineLength (drop i text) in
+        sym (looked-at end h l c refl ∙ ap (λ (t : Bool). elim t [ true ↦ continued (cardsOf (drop (end + 1) text)) | false ↦ continues (kindOf (cardAt text i)) ]) (not-true b n) ∙ sym e)
+
+    pub comment-passed : (end : ℕ) → i < length text → Left → Begins → not b ≡ false → end ≡ i + lineLength (drop i text) → continued (cardsOf (drop at text)) ≡ continued (cardsOf (drop (end + 1) text))
+    comment-passed end h l c n e =
+        looked-at end h l c e ∙ ap (λ (t : Bool). elim t [ true ↦ continued (cardsOf (drop (end + 1) text)) | false ↦ continues (kindOf (cardAt text i)) ]) (not-false b n)
+
+  pub none-left : length text ≤ i → Left → false ≡ continued (cardsOf (drop at text))
+  none-left h l = sym (l ∙ ap continued (no-cards text i h))
+
+-- A statement that is not continued is laid down.
 laid-before : (n : ℕ) (cs : List (List ℕ)) (s : Statement) → continued cs ≡ false → gathered n cs (Held s) ≡ s ∷ gathered n cs Nothing
 unfolding gathered
 laid-before n [] s e = refl
-laid-before n (c ∷ cs) s e = go (kindOf c) refl e
+laid-before n (c ∷ cs) s e = go (kindOf c) refl (ap (λ (t : Bool). elim t [ true ↦ continued cs | false ↦ continues (kindOf c) ]) (free-comment c) ∙ e) (laid-before (suc n) cs s)
   where
-    go : (k : Kind) → k ≡ kindOf c → continues k ≡ false → gathered n (c ∷ cs) (Held s) ≡ s ∷ gathered n (c ∷ cs) Nothing
-    go Comment q f = laid-down n c cs s Comment q refl
-    go Empty q f = laid-down n c cs s Empty q refl
-    go Opening q f = laid-down n c cs s Opening q refl
-    go Continuing q f = let z : _≡_ {A = ℕ} 0 1 = cc in absurd (omega arith)
+    go : (k : Kind) → k ≡ kindOf c → elim (free k) [ true ↦ continued cs | false ↦ continues k ] ≡ false → (continued cs ≡ false → gathered (suc n) cs (Held s) ≡ s ∷ gathered (suc n) cs Nothing) → gathered n (c ∷ cs) (Held s) ≡ s ∷ gathered n (c ∷ cs) Nothing
+    go Comment q f more = gone-on n c cs s Comment q refl ∙ more f ∙ ap (λ (x : List Statement). s ∷ x) (sym (passed-over n c cs Comment q refl))
+    go Empty q f more = laid-down n c cs s Empty q refl
+    go Opening q f more = laid-down n c cs s Opening q refl
+    go Continuing q f more = let z : _≡_ {A = ℕ} 0 1 = cc in absurd (omega arith)
 
 -- The statement in hand, with the cards that continue it, is laid down in the end.
 some-laid : (n : ℕ) (cs : List (List ℕ)) (s : Statement) → (t : Statement) × (ts : List Statement) × (gathered n cs (Held s) ≡ t ∷ ts)
@@ -446,11 +466,17 @@ unfolding gathered
 some-laid n [] s = (s, [], refl)
 some-laid n (c ∷ cs) s = go (kindOf c) refl (λ t. some-laid (suc n) cs t)
   where
-    go : (k : Kind) → k ≡ kindOf c → ((t : Statement) → (u : Statement) × (us : List Statement) × (gathered (suc n) cs (Held t) ≡ u ∷ us)) → (t : Statement) × (ts : List Statement) × (gathered n (c ∷ cs) (Held s) ≡ t ∷ ts)
-    go Comment q r = (s, gathered n (c ∷ cs) Nothing, laid-down n c cs s Comment q refl)
+    Laid : Type 0
+    Laid = (t : Statement) × (ts : List Statement) × (gathered n (c ∷ cs) (Held s) ≡ t ∷ ts)
+
+    goes-on : (k : Kind) → k ≡ kindOf c → ends k ≡ false → ((t : Statement) → (u : Statement) × (us : List Statement) × (gathered (suc n) cs (Held t) ≡ u ∷ us)) → Laid
+    goes-on k q f r = let (t, ts, e) = r (goneOn k n c s) in (t, ts, gone-on n c cs s k q f ∙ e)
+
+    go : (k : Kind) → k ≡ kindOf c → ((t : Statement) → (u : Statement) × (us : List Statement) × (gathered (suc n) cs (Held t) ≡ u ∷ us)) → Laid
+    go Comment q r = goes-on Comment q refl r
     go Empty q r = (s, gathered n (c ∷ cs) Nothing, laid-down n c cs s Empty q refl)
     go Opening q r = (s, gathered n (c ∷ cs) Nothing, laid-down n c cs s Opening q refl)
-    go Continuing q r = let (t, ts, e) = r (goneOn Continuing n c s) in (t, ts, gone-on n c cs s Continuing q refl ∙ e)
+    go Continuing q r = goes-on Continuing q refl r
 
 -- The statement of a card alone.
 abbrev pub alone : ℕ → List ℕ → Statement

@@ -7,7 +7,7 @@ use lib.ListN.{length, take, drop, set, replicate}
 use Rattle.lists.specs.Lists.{padded, splice}
 use Rattle.decks.specs.Answers.{Got}
 use Rattle.decks.specs.Readings.{walk}
-use Rattle.cards.specs.Card.{cardsOf, blank, fieldStart, fieldEnd, fieldColumns, Kind, Comment, Empty, Opening, Continuing, kindOf, Open, cardInForm}
+use Rattle.cards.specs.Card.{cardsOf, blank, fieldStart, fieldEnd, fieldColumns, Kind, Comment, Empty, Opening, Continuing, isComment, kindOf, Open, cardInForm}
 use Rattle.cards.specs.Statement.{Statement, Nothing, gathered}
 use Rattle.ends.specs.Ends.{lineLength}
 use Rattle.statements.specs.declared.Stmt.{Stmt}
@@ -61,10 +61,17 @@ continues Empty = false
 continues Opening = false
 continues Continuing = true
 
--- Whether the first of the cards that follow continues the statement before it.
+-- The cards before which a statement ends.
+abbrev pub ends : Kind → Bool
+ends Comment = false
+ends Empty = true
+ends Opening = true
+ends Continuing = false
+
+-- Whether the first of the cards that follow and are no comments continues the statement before it.
 abbrev pub continued : List (List ℕ) → Bool
 continued [] = false
-continued (c ∷ cs) = continues (kindOf c)
+continued (c ∷ cs) = elim (isComment c) [ true ↦ continued cs | false ↦ continues (kindOf c) ]
 
 -- The cards from number n on are in form, behind some open statement or none.
 pub record Formed (n : ℕ) (cards : List (List ℕ)) : Type 0 where

@@ -1,17 +1,16 @@
 // The statement in hand, cards folded into it, and the walk over the text from statement to statement.
 ghost use mathlib.Core.Path.{_≡_};
-ghost use mathlib.Core.Bool.{_||_};
 ghost use mathlib.Core.List.{[]};
-ghost use Prim.Native.Nat.{_+_, _≤_};
+ghost use Prim.Native.Nat.{_+_, _<_, _≤_};
 ghost use lib.ListN.{length, drop};
-ghost use Rattle.cards.specs.Card.{cardsOf, fieldColumns, closes, Continuing};
+ghost use Rattle.cards.specs.Card.{cardsOf, fieldColumns, Continuing, kindOf};
 ghost use Rattle.firstpass.specs.Passed.{kindIs};
-ghost use Rattle.statements.specs.Hold.{held, Room, withCard, foldedIn, opens, continues, continued, Formed, AtOpening, Takes};
+ghost use Rattle.statements.specs.Hold.{held, Room, withCard, foldedIn, opens, ends, continues, continued, Formed, cardAt, AtOpening, Takes};
 use ends::line_end;
 use firstpass::CardKind;
-use firstpass::closes;
 use firstpass::column;
 use firstpass::field;
+use firstpass::is_comment;
 use firstpass::kind_of;
 
 // The characters of a statement, its cards, and the columns of a card's field.
@@ -117,12 +116,14 @@ fn opens(kind: CardKind) -> bool
 
 // The cards before which a statement ends.
 fn ends(kind: CardKind) -> bool
-    ensures { λ r. ⌜ r ≡ (closes (kindIs kind) || opens (kindIs kind)) ⌝ }
+    ensures { λ r. ⌜ r ≡ ends (kindIs kind) ⌝ }
 {
-    if closes(kind) {
-        return true;
+    match kind {
+        CardKind::Comment => false,
+        CardKind::Empty => true,
+        CardKind::Opening => true,
+        CardKind::Continuing => false,
     }
-    opens(kind)
 }
 
 // Card n of this kind folded into the statement: none but a continuation changes it.
@@ -177,10 +178,10 @@ fn continues(kind: CardKind) -> bool
     }
 }
 
-// Whether the card that begins at a place of the text, if one does, continues the statement before it: none does that has a blank in column 6.
-pub fn is_continued(text: &[u8], at: usize) -> bool
-    requires { ⌜ at ≤ length (now text) + 1 ⌝ }
-    ensures { λ r. ⌜ r ≡ continued (cardsOf (drop at (now (text .entry)))) ⌝ }
+// Whether the card that begins at a place of the text continues a statement: none does that has a blank in column 6.
+fn card_continues(text: &[u8], at: usize) -> bool
+    requires { ⌜ at < length (now text) ⌝ }
+    ensures { λ r. ⌜ r ≡ continues (kindOf (cardAt (now (text .entry)) at)) ⌝ }
 {
     if text.len() <= at + MARK {
         return false;
@@ -190,6 +191,22 @@ pub fn is_continued(text: &[u8], at: usize) -> bool
     }
     let end = line_end(text, at);
     continues(kind_of(&text[at..end]))
+}
+
+// Whether the next card from a place of the text on that is no comment, if there is one, continues the statement before it.
+pub fn is_continued(text: &[u8], at: usize) -> bool
+    requires { ⌜ at ≤ length (now text) + 1 ⌝ }
+    ensures { λ r. ⌜ r ≡ continued (cardsOf (drop at (now (text .entry)))) ⌝ }
+{
+    let mut i = at;
+    while i < text.len() {
+        if !is_comment(&text[i..text.len()]) {
+            return card_continues(text, i);
+        }
+        let end = line_end(text, i);
+        i = end + 1;
+    }
+    false
 }
 
 // The next statement from card n on, which begins at a place of the text, with all its continuations.

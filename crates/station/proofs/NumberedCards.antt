@@ -1,5 +1,5 @@
 -- Every refusal of a text of cards has a number, and names a place within the text.
-use mathlib.Core.Bool.{true, false, not, _&&_}
+use mathlib.Core.Bool.{not, _&&_}
 use mathlib.Core.List.{List, [], _∷_}
 use mathlib.Core.Option.{Option, none, some}
 use Prim.Native.Nat.{ℕ, suc, _+_, _≤_}
@@ -15,7 +15,7 @@ use Rattle.decks.specs.declared.Answer.{Answer}
 use Rattle.decks.specs.declared.Answer.the-variants.{BadByte, TooWide, BadStart, BadNumber, TooManyCards, NotDue, Outside, Temporal, TooDeep, ManyInitials, ManyEquations, ManyNodes}
 use Rattle.decks.specs.Answers.{Outcome, Got, Refused, refuse, afterwards}
 use Rattle.decks.specs.Readings.{Reading, Whole, Wrong, Deep, walk, complete}
-use Rattle.cards.specs.Card.{cardsOf, lastCard, cardColumns, continuations, columns, every, isBlank, printable, Kind, Comment, Empty, Opening, Continuing, closes, isComment, kindOf, numbered, Open, Shut, Continued, opened, cardInForm, inForm}
+use Rattle.cards.specs.Card.{cardsOf, lastCard, cardColumns, continuations, columns, every, isBlank, printable, Kind, Comment, Empty, Opening, Continuing, isComment, kindOf, numbered, Open, Shut, Continued, opened, cardInForm, inForm}
 use Rattle.cards.specs.Statement.{Statement, inked, fieldOf, Hand, Nothing, Held, laid, folded, gathered, statementsOf}
 use Rattle.cards.specs.Grammar.{Counted, Number, NoNumber, readNumber, readExpr}
 use Rattle.cards.specs.Typed.{Typed, firstVars, deckOf}
@@ -59,12 +59,12 @@ gathered-few m n (c ∷ cs) x h k = go (kindOf c) (λ y l. gathered-few m (suc n
     go : (t : Kind)
         → ((y : Hand) → Among m y → Each (Few m) (gathered (suc n) cs y))
         → Each (Few m) (elim t [
-          | Comment ↦ elim (closes Comment) [ true ↦ laid x (gathered (suc n) cs Nothing) | false ↦ gathered (suc n) cs x ]
-          | Empty ↦ elim (closes Empty) [ true ↦ laid x (gathered (suc n) cs Nothing) | false ↦ gathered (suc n) cs x ]
+          | Comment ↦ gathered (suc n) cs x
+          | Empty ↦ laid x (gathered (suc n) cs Nothing)
           | Opening ↦ laid x (gathered (suc n) cs (Held (record { card = n; further = []; field = fieldOf c })))
           | Continuing ↦ gathered (suc n) cs (folded n c x)
         ])
-    go Comment more = laid-few m x _ k (more Nothing tt)
+    go Comment more = more x k
     go Empty more = laid-few m x _ k (more Nothing tt)
     go Opening more = laid-few m x _ k (more _ (omega arith))
     go Continuing more = more _ (folded-few m n c x k)

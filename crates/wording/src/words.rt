@@ -74,11 +74,11 @@ with its text in column 7 of a further card that has a character other than blan
 column 6, or mend the card's number.
 @continuation with no statement open
 A character other than blank and 0 in column 6 continues the statement above, and none is
-open here: a comment or a blank card closes it. Leave column 6 blank if the card begins a
-statement, or take out the card that stands between.
+open here: none was begun, or a blank card closed it. Leave column 6 blank if the card begins a
+statement, or take out the blank card. A comment may stand between: it closes nothing.
 @twentieth continuation
-A statement has its first card and at most 19 more. Fill columns 7 to 72 of each card, leave
-out blanks, or write a shorter expression.
+A statement has its first card and at most 19 more, comments between them not counted. Fill
+columns 7 to 72 of each card, leave out blanks, or write a shorter expression.
 @no statement of the form due here
 Statements stand in this order, in capital letters:
   VARS n           n from 0 to 64; the variables are V0 to Vn-1
@@ -89,7 +89,7 @@ Statements stand in this order, in capital letters:
 An expression is 0, 1, a variable, one of ~ X F G before an expression, or one of (e&e), (e+e),
 (eUe), (eWe). Each of & + U W has its own parentheses, and nothing else has: (V1) is wrong.
 Numbers have one or two digits and no leading zero. Blanks mean nothing. The statement at fault
-begins on the card shown and may go on behind it; a comment or a blank card ends it.
+begins on the card shown and may go on behind it, past comments; a blank card ends it.
 @variable or state bit outside the set
 On cards VARS n gives the variables V0 to Vn-1; in frames the bits of 01 give them. Use these
 alone, on the left of an equation too, or make the set larger. A state has no other bit.

@@ -3,12 +3,6 @@ use Rattle.firstpass.proofs.Laws as laws
 use Rattle.firstpass.proofs.opened.Statement.{statement}
 use Rattle.firstpass.proofs.opened.Tie as tie
 
-closes-requires : tie.Need-closes-requires
-closes-requires c κs = search needs
-
-returns : tie.Need-returns
-returns c = search (needs, laws.card-closes)
-
 enum-told : tie.Need-enum-told
 enum-told c = search needs
 
@@ -24,30 +18,28 @@ enum-told-4 c = search needs
 continued-requires : tie.Need-continued-requires
 continued-requires c κs = search needs
 
+returns : tie.Need-returns
+returns c = search (needs, laws.comment-passes)
+
 returns-2 : tie.Need-returns-2
-returns-2 c = search (needs, laws.comment-passes)
+returns-2 c = search (needs, laws.blank-closes)
 
 returns-3 : tie.Need-returns-3
-returns-3 c = search (needs, laws.empty-passes)
+returns-3 c = search (needs, laws.card-opens)
 
 returns-4 : tie.Need-returns-4
-returns-4 c = search (needs, laws.card-opens)
-
-returns-5 : tie.Need-returns-5
-returns-5 c = search (needs, laws.card-continues)
+returns-4 c = search (needs, laws.card-continues)
 
 pub opened-spec : {M : Type 1} → statement M
 opened-spec =
     tie.close
     (tie.spec
-    closes-requires
-    returns
     enum-told
     enum-told-2
     enum-told-3
     enum-told-4
     continued-requires
+    returns
     returns-2
     returns-3
-    returns-4
-    returns-5)
+    returns-4)
