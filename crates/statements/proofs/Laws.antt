@@ -1,7 +1,7 @@
 -- Laws of the statement in hand and of the walk from statement to statement.
 use mathlib.Core.Path.{_≡_, refl, sym, ap, _∙_, subst}
 use mathlib.Core.Logic.{by-cases}
-use mathlib.Core.Bool.{Bool, true, false, not, _&&_, _||_}
+use mathlib.Core.Bool.{Bool, true, false, not, _||_}
 use mathlib.Core.List.{List, [], _∷_, _++_}
 use Prim.Native.Nat.{ℕ, suc, _+_, _-_, _*_, _<_, _≤_}
 use native.Mathlib.Omega.{arith}
@@ -13,11 +13,12 @@ use lib.Seq.{take-all, take-suc, getD-take, getD-drop}
 use borrow.Author.Tests.{ltb-false, eqb-true, not-true, not-false}
 use Rattle.lists.specs.Lists.{splice, ended, unended}
 use Rattle.lists.proofs.Laws.{getD-any, getD-filled, padded-append, padded-snoc, splice-nothing, splice-splice, set-splice, length-splice}
-use Rattle.decks.specs.declared.Answer.the-variants.{BadByte, TooWide, BadStart, BadNumber, TooManyCards}
-use Rattle.decks.specs.Answers.{Outcome, Got, Refused, refuse}
+use Rattle.decks.specs.declared.Answer.the-variants.{TooManyCards}
+use Rattle.decks.specs.Answers.{Got}
 use Rattle.decks.specs.Readings.{walk}
-use Rattle.decks.proofs.Outcomes.{got-eq, refuse-got, refuse-not}
-use Rattle.cards.specs.Card.{cardsOf, blank, cardColumns, every, isBlank, isComment, printable, numbered, fieldStart, fieldEnd, column, columns, continuations, Kind, Comment, Empty, Opening, Continuing, kindOf, Open, Shut, Continued, opened, cardInForm}
+use Rattle.decks.proofs.Outcomes.{got-eq, refuse-got, refuse-not, walk-first}
+use Rattle.cards.proofs.FormLaws.{card-formed}
+use Rattle.cards.specs.Card.{cardsOf, blank, every, isBlank, isComment, fieldStart, fieldEnd, column, columns, continuations, Kind, Comment, Empty, Opening, Continuing, kindOf, Open, Shut, Continued, opened, cardInForm}
 use Rattle.cards.specs.Statement.{Statement, Nothing, Held, laid, gathered, fieldOf}
 use Rattle.firstpass.specs.declared.CardKind.{CardKind}
 use Rattle.firstpass.specs.declared.CardKind.the-variants.{Continuing as ContinuingCard}
@@ -71,34 +72,9 @@ held-more ks fs f n k w =
 
 -- ---- the cards in form
 
-faults-got : (a b c d : Bool) (n : ℕ) (r : Outcome Open) (p : Open) → refuse a (BadByte n) (refuse b (TooWide n) (refuse c (BadStart n) (refuse d (BadNumber n) r))) ≡ Got p → r ≡ Got p
-faults-got a b c d n r p e =
-    refuse-got d (BadNumber n) r p
-    (refuse-got c (BadStart n) (refuse d (BadNumber n) r) p
-    (refuse-got b (TooWide n) (refuse c (BadStart n) (refuse d (BadNumber n) r)) p
-    (refuse-got a (BadByte n) (refuse b (TooWide n) (refuse c (BadStart n) (refuse d (BadNumber n) r))) p e)))
-
--- What a card in form makes of the open statement.
-opened-got : (n : ℕ) (card : List ℕ) (o p : Open) → cardInForm n card o ≡ Got p → opened n (kindOf card) o ≡ Got p
-unfolding cardInForm
-opened-got n card o p e =
-    faults-got
-    (not (every printable card))
-    (ltb cardColumns (length card))
-    (not (isComment card) && not (every isBlank (columns 1 5 card)))
-    (not (isComment card) && not (numbered card))
-    n
-    (opened n (kindOf card) o)
-    p
-    e
-
+-- A card in form, what it makes of the open statement, and the cards behind it.
 walk-next : (n : ℕ) (c : List ℕ) (cs : List (List ℕ)) (o p : Open) → walk cardInForm n (c ∷ cs) o ≡ Got p → (q : Open) × (opened n (kindOf c) o ≡ Got q) × (walk cardInForm (suc n) cs q ≡ Got p)
-unfolding walk
-walk-next n c cs o p e = go (cardInForm n c o) refl
-  where
-    go : (r : Outcome Open) → cardInForm n c o ≡ r → (q : Open) × (opened n (kindOf c) o ≡ Got q) × (walk cardInForm (suc n) cs q ≡ Got p)
-    go (Got q) f = (q, opened-got n c o q f, sym (simp (f, walk)) ∙ e)
-    go (Refused a) f = let x : Refused a ≡ Got p = sym (simp (f, walk)) ∙ e in let z : _≡_ {A = ℕ} 0 1 = cc in absurd (omega arith)
+walk-next n c cs o p e = let (q, f, g) = walk-first cardInForm n c cs o p e in (q, card-formed n c o q f .1, g)
 
 -- Behind a card in form come cards in form.
 pub formed-next : (n : ℕ) (c : List ℕ) (cs : List (List ℕ)) → Formed n (c ∷ cs) → Formed (suc n) cs
