@@ -201,16 +201,48 @@ module _ (one other : List ℕ) (q : DeckReply) (reads : ReadsCards one q) (acce
 abbrev told : DeckReply → Reply
 told r = record { number = r .number; text = r .text; place = r .place }
 
+abbrev counted : CountReply → Reply
+counted r = record { number = r .number; text = r .text; place = r .place }
+
 read-told : (o : Outcome Deck) → told (readReply o) ≡ replyOf (answerOf o)
 read-told (Got d) = refl
 read-told (Refused a) = refl
 
--- Two texts of the same cards but for comments, accepted or refused: the replies have one number and one text, and name one card by the number that it has in each text, or one variable.
-pub comment-same-refusal : (one other : List ℕ) (r s : DeckReply) → SameButComments one other → ReadsCards one r → ReadsCards other s
-    → (r .number ≡ s .number) × (r .text ≡ s .text) × SamePlace one other (r .number) (r .place) (s .place)
-comment-same-refusal one other r s same p q =
-    subst (λ (x : Reply). SameReply one other x (told s)) (sym (ap told p ∙ read-told (readCards one)))
-    (subst (SameReply one other (replyOf (answerOf (readCards one)))) (sym (ap told q ∙ read-told (readCards other))) (comment-same-reply one other same))
+write-told : (o : Outcome Deck) (out : List ℕ) → (readReply o .number ≡ 0 → ⊥) → counted (writeReply o out) ≡ told (readReply o)
+write-told (Got d) out n = absurd (n refl)
+write-told (Refused a) out n = refl
+
+reduce-told : (o : Outcome Deck) (out : List ℕ) → (readReply o .number ≡ 0 → ⊥) → counted (reduceReply o out) ≡ told (readReply o)
+reduce-told (Got d) out n = absurd (n refl)
+reduce-told (Refused a) out n = refl
+
+-- Two texts of the same cards but for comments, accepted or refused: the replies have one number and one text, and name one card by the number that it has in each text, or one variable. Where they are refused, so they are by every operation on cards.
+module _ (one other : List ℕ) (same : SameButComments one other) where
+  alike : (x y : Reply) → x ≡ told (readReply (readCards one)) → y ≡ told (readReply (readCards other)) → SameReply one other x y
+  alike x y p q =
+      subst (λ (z : Reply). SameReply one other z y) (sym (p ∙ read-told (readCards one)))
+      (subst (SameReply one other (replyOf (answerOf (readCards one)))) (sym (q ∙ read-told (readCards other))) (comment-same-reply one other same))
+
+  pub comment-same-refusal-reads-cards : (r s : DeckReply) → ReadsCards one r → ReadsCards other s
+      → (r .number ≡ s .number) × (r .text ≡ s .text) × SamePlace one other (r .number) (r .place) (s .place)
+  comment-same-refusal-reads-cards r s p q = alike (told r) (told s) (ap told p) (ap told q)
+
+  module _ (q : DeckReply) (reads : ReadsCards one q) (refused : q .number ≡ 0 → ⊥) where
+    one-refused : readReply (readCards one) .number ≡ 0 → ⊥
+    one-refused z = refused (ap (λ (x : DeckReply). x .number) reads ∙ z)
+
+    other-refused : readReply (readCards other) .number ≡ 0 → ⊥
+    other-refused z = one-refused (alike (told (readReply (readCards one))) (told (readReply (readCards other))) refl refl .0 ∙ z)
+
+    pub comment-same-refusal-writes-cards : (out : List ℕ) (r s : CountReply) (after later : List ℕ) → WritesCards one out r after → WritesCards other out s later
+        → (r .number ≡ s .number) × (r .text ≡ s .text) × SamePlace one other (r .number) (r .place) (s .place)
+    comment-same-refusal-writes-cards out r s after later (o, b) (p, c) =
+        alike (counted r) (counted s) (ap counted o ∙ write-told (readCards one) out one-refused) (ap counted p ∙ write-told (readCards other) out other-refused)
+
+    pub comment-same-refusal-reduces-cards : (out : List ℕ) (r s : CountReply) (after later : List ℕ) → ReducesCards one out r after → ReducesCards other out s later
+        → (r .number ≡ s .number) × (r .text ≡ s .text) × SamePlace one other (r .number) (r .place) (s .place)
+    comment-same-refusal-reduces-cards out r s after later (o, b) (p, c) =
+        alike (counted r) (counted s) (ap counted o ∙ reduce-told (readCards one) out one-refused) (ap counted p ∙ reduce-told (readCards other) out other-refused)
 
 -- A text of frames is accepted exactly when it is the frames of an accepted deck; the deck returned is that one.
 pub frames-accepted-exactly-when : (text : List ℕ) (r : DeckReply) → ReadsFrames text r → (r .number ≡ 0) ↔ ((d : Deck) × (text ≡ deckFrames d) × Accepted base d × (r .deck ≡ stored d))
