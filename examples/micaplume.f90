@@ -92,7 +92,6 @@ contains
         text = ibits(word, 8, 8)
     end function
 
-    ! With number 24 this is 100 * card + column: place / 100 is the card and mod(place, 100_c_int64_t) its column.
     elemental function reply_place(word) result(place)
         integer(c_int64_t), intent(in) :: word
         integer(c_int64_t) :: place

@@ -17,11 +17,9 @@
  * A call uses no heap, no files and nothing that outlives it, so calls may run side by side. Have 128 KiB of stack free; the most measured was 34.
  *
  * Every call returns a word: number + 256 * text + 65,536 * place.
- *   number   0 for success, 1 to 26 for the refusal of that number in RULES 7.2;
+ *   number   0 for success, 1 to 22 for the refusal of that number in RULES 7.2;
  *   text     the text at fault: 1 the deck, 2 the claim, 0 neither;
- *   place    the card, line, variable or step, or the bytes needed, as the table says. With 24 it is 100 * card + column, where an expression is broken
- *            (RULES 7.7): place / 100 is the card, from 1 on, and place % 100 the column of that card, 7 to 73. On success text and place are 0,
- *            so the word is 0.
+ *   place    the card, line, variable or step, or the bytes needed, as the table says. On success text and place are 0, so the word is 0.
  */
 #ifndef MICAPLUME_H
 #define MICAPLUME_H

@@ -5,8 +5,8 @@ usage: tools/respell.py --table   writes tools/names.tsv: each name of specs/ an
        tools/respell.py [FOLDER]  renames by that table in crates/ of FOLDER (here, if none is given) and in its pages
 
 Words are in snake case. A dash stays where it joins two names that are both defined, else it becomes '_'. A law that would
-have its function's name gets '_lem'. Functions of src/, files, strings and what Rattle names keep their spelling. A second
-run changes nothing.
+have its function's name gets '_lem'. Functions of src/, files, strings and what Rattle names keep their spelling. Run it once:
+a name that one run gave may be a name that a second one turns.
 """
 
 import collections

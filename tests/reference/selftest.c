@@ -101,26 +101,13 @@ static bool deck_gives(const char *deck, unsigned number, uint64_t place)
 }
 
 /* One statement after VARS 1 and INIT 0, so on card 3. */
-static void put_third(const char *words, const char *part, int times, const char *rest)
+static bool third_gives(const char *words, const char *part, int times, const char *rest,
+                        unsigned number)
 {
     begin();
     card("VARS 1");
     card("INIT 0");
     card_of(words, part, times, rest);
-}
-
-/* Its expression is broken in this column of this card. */
-static bool third_broken(const char *words, const char *part, int times, const char *rest,
-                         unsigned card_number, unsigned column)
-{
-    put_third(words, part, times, rest);
-    return cards_give(24, 100 * card_number + column);
-}
-
-static bool third_gives(const char *words, const char *part, int times, const char *rest,
-                        unsigned number)
-{
-    put_third(words, part, times, rest);
     if (number == 0) {
         card("PROP 0");
         card("END");
@@ -313,15 +300,14 @@ static void run_lines(void)
     }
 
     static const char *const variables[] = { "PROP V63", "PROP V64", "PROP V100" };
-    static const unsigned variable_replies[] = { 15, 9, 24 };
-    static const unsigned places[] = { 0, 4, 415 };
+    static const unsigned variable_replies[] = { 15, 9, 8 };
     for (int i = 0; i < 3; i++) {
         begin();
         card("VARS 64");
         card_of("INIT ", "0", 64, "");
         card(variables[i]);
         card("END");
-        EXPECT(cards_give(variable_replies[i], places[i]));
+        EXPECT(cards_give(variable_replies[i], i ? 4 : 0));
     }
 
     for (int columns = 80; columns <= 81; columns++) {
@@ -344,14 +330,14 @@ static void points_of_cards(void)
     /* A lone 0 in column 6 opens a statement. */
     begin();
     add("     0\n");
-    EXPECT(cards_give(23, 1));
+    EXPECT(cards_give(8, 1));
     begin();
     card("VARS 0");
     card("INIT");
     card("PROP 0");
     card("END");
     add("     0\n");
-    EXPECT(cards_give(23, 5));
+    EXPECT(cards_give(8, 5));
     begin();
     add("     0\n     1VARS 0\n     0INIT\n");
     card("PROP 0");
@@ -382,7 +368,7 @@ static void points_of_cards(void)
     begin();
     add("CXXXX");
     add_times("x", 75);
-    EXPECT(cards_give(26, 0));
+    EXPECT(cards_give(8, 0));
     /* A short card is filled before its last columns are judged. */
     begin();
     add_times(" ", 72);
@@ -391,68 +377,66 @@ static void points_of_cards(void)
     begin();
     add_times(" ", 72);
     add("12345678");
-    EXPECT(cards_give(26, 0));
+    EXPECT(cards_give(8, 0));
     /* Nothing follows a final byte 10; an empty text lacks its first statement. */
     begin();
-    EXPECT(cards_give(26, 0));
+    EXPECT(cards_give(8, 0));
     begin();
     add("C\n\n*\n");
-    EXPECT(cards_give(26, 0));
+    EXPECT(cards_give(8, 0));
     begin();
     add("      VARS 0\n      INIT\n      PROP 0\n      END");
     EXPECT(cards_give(0, 0));
-    /* 23 names the statement that stands where another is due; 26 names none. */
+    /* 8 names the statement that stands where another is due, or 0 at the end. */
     begin();
     card("VARS 0");
     card("INIT");
     card("END");
-    EXPECT(cards_give(23, 3));
+    EXPECT(cards_give(8, 3));
     begin();
     card("VARS 0");
     card("INIT");
     card("PROP 0");
-    EXPECT(cards_give(26, 0));
+    EXPECT(cards_give(8, 0));
     /* Numbers, with blanks gone, and the digits of INIT. */
     static const char *const vars[] = { "VARS 65", "VARS 04", "VARS 100", "VARS", "VARS 4X", "vars 4" };
     for (int i = 0; i < 6; i++) {
         begin();
         card(vars[i]);
-        EXPECT(cards_give(23, 1));
+        EXPECT(cards_give(8, 1));
     }
     begin();
     card("V A R S 4 4");
     card_of("INIT ", "01", 22, "");
-    EXPECT(cards_give(26, 0));
-    EXPECT(third_broken("V0=V01", "", 0, "", 3, 12));
-    EXPECT(third_gives("V00=V0", "", 0, "", 23));
-    EXPECT(third_gives("INIT 01", "", 0, "", 25));
-    EXPECT(third_gives("INIT", "", 0, "", 25));
-    EXPECT(third_gives("INIT 2", "", 0, "", 25));
+    EXPECT(cards_give(8, 0));
+    EXPECT(third_gives("V0=V01", "", 0, "", 8));
+    EXPECT(third_gives("V00=V0", "", 0, "", 8));
+    EXPECT(third_gives("INIT 01", "", 0, "", 8));
+    EXPECT(third_gives("INIT", "", 0, "", 8));
+    EXPECT(third_gives("INIT 2", "", 0, "", 8));
     /* The inside of a form that is not due is not read. */
     begin();
     card("VARS 1");
     card_of("PROP ", "~", 40, "0");
-    EXPECT(cards_give(23, 2));
+    EXPECT(cards_give(8, 2));
     begin();
     card("VARS 1");
     card("INIT 0");
     card("V0=V0");
     card("INIT 1");
-    EXPECT(cards_give(23, 4));
-    /* 24 and 11: the one met first from the left. */
+    EXPECT(cards_give(8, 4));
+    /* 8 and 11: the one met first from the left. */
     EXPECT(third_gives("V0=", "~", 32, "0)", 11));
-    EXPECT(third_broken("V0=", "~", 32, ")", 3, 42));
-    EXPECT(third_broken("V0=", "~", 32, "", 3, 42));
+    EXPECT(third_gives("V0=", "~", 32, ")", 8));
+    EXPECT(third_gives("V0=", "~", 32, "", 8));
     EXPECT(third_gives("V0=", "~", 32, "V", 11));
-    EXPECT(third_broken("V0=", "~", 32, "&", 3, 42));
-    EXPECT(third_broken("V0=", "~", 32, "U", 3, 42));
-    EXPECT(third_broken("V0=(V1)+", "~", 32, "0", 3, 13));
+    EXPECT(third_gives("V0=", "~", 32, "&", 8));
+    EXPECT(third_gives("V0=", "~", 32, "U", 8));
+    EXPECT(third_gives("V0=(V1)+", "~", 32, "0", 8));
     EXPECT(third_gives("PROP ", "(0&", 32, "0", 11));
-    EXPECT(third_broken("PROP ", "(0&", 31, ")", 4, 39));
-    EXPECT(third_broken("PROP ", "(0&", 31, "0", 4, 40));
-    EXPECT(third_broken("V0=(V0)", "", 0, "", 3, 13));
-    /* 24 in equations is decided by the full grammar. */
-    EXPECT(third_broken("V0=X)", "", 0, "", 3, 11));
+    EXPECT(third_gives("V0=(V0)", "", 0, "", 8));
+    /* 8 in equations is decided by the full grammar. */
+    EXPECT(third_gives("V0=X)", "", 0, "", 8));
     EXPECT(third_gives("V0=X0", "", 0, "", 10));
     EXPECT(third_gives("V0=(0U1)", "", 0, "", 10));
     EXPECT(third_gives("V0=(0W1)", "", 0, "", 10));
@@ -590,10 +574,10 @@ static void comments_between_cards(void)
     EXPECT(vars_give("     0\nC\n     1VARS 0\n", 0, 0));
     /* Nothing on a comment is read, whatever it looks like. */
     EXPECT(vars_give("      VARS\nC    1 9\n*    0 9\nC     END\n     1 0\n", 0, 0));
-    EXPECT(vars_give("      VARS\nC\n     1 65\n", 23, 1));
-    EXPECT(vars_give("     0\nC\n     1VARS 65\n", 23, 1));
-    EXPECT(vars_give("      VARS 0\nC\n     1 0\n", 23, 1));
-    EXPECT(vars_give("      VARS 0\nC\n     1\nC\n      VARS 0\n", 23, 5));
+    EXPECT(vars_give("      VARS\nC\n     1 65\n", 8, 1));
+    EXPECT(vars_give("     0\nC\n     1VARS 65\n", 8, 1));
+    EXPECT(vars_give("      VARS 0\nC\n     1 0\n", 8, 1));
+    EXPECT(vars_give("      VARS 0\nC\n     1\nC\n      VARS 0\n", 8, 5));
     /* Where none is open, a comment opens none. */
     EXPECT(vars_give("C\n     1VARS 0\n", 6, 2));
     EXPECT(vars_give("C    0\n     1VARS 0\n", 6, 2));
@@ -648,228 +632,10 @@ static void comments_between_cards(void)
     /* END is continued like every statement; after it comments are free. */
     EXPECT(end_gives("      EN\nC\n     1D\n", 0, 0));
     EXPECT(end_gives("      END\nC\n*\n     1\n*\n", 0, 0));
-    EXPECT(end_gives("      END\nC\n     1END\n", 23, 4));
+    EXPECT(end_gives("      END\nC\n     1END\n", 8, 4));
     EXPECT(end_gives("      END\nC\n\n     1\n", 6, 7));
-    EXPECT(end_gives("      END\nC\n      END\n", 23, 6));
+    EXPECT(end_gives("      END\nC\n      END\n", 8, 6));
     EXPECT(end_gives("      END\nC     END\n*     END", 0, 0));
-}
-
-/* ---- Statements that are refused, on any cards ---- */
-
-/* How a statement is laid on cards: so many of its characters on the first, the
-   others on a continuation, and on further ones where they have no room. */
-struct layout {
-    size_t first;
-    int blanks;          /* before each character and after the last */
-    bool full;           /* the last character of the first card is in column 72 */
-    const char *between; /* cards before the continuation */
-    const char *after;   /* cards after the statement */
-};
-
-/* The columns of the last card that are filled. */
-static size_t filled(void)
-{
-    size_t columns = 0;
-    while (columns < length && text[length - columns - 1] != '\n')
-        columns++;
-    return columns;
-}
-
-/* The place of the byte that is added next. */
-static uint64_t next_place(void)
-{
-    uint64_t card_number = 1;
-    for (size_t i = 0; i < length; i++)
-        card_number += text[i] == '\n';
-    return 100 * card_number + filled() + 1;
-}
-
-/* Adds a statement. A bar in it is no character of it: the place of the one that
-   follows the bar is answered, or of the end, if the bar stands last. */
-static uint64_t lay(const char *statement, const struct layout *layout)
-{
-    uint64_t place = 0;
-    size_t laid = 0;
-    add(layout->first ? "      " : "     0");
-    for (const char *at = statement; *at; at++) {
-        bool barred = *at == '|';
-        if (barred && at[1] == 0)
-            return next_place();
-        at += barred;
-        if (laid == layout->first) {
-            add("\n");
-            add(layout->between);
-            add("     1");
-        }
-        int left = 72 - (int)filled();
-        if (layout->full && laid + 1 == layout->first)
-            add_times(" ", left ? left - 1 : 0);
-        else
-            add_times(" ", left > layout->blanks ? layout->blanks : left);
-        if (filled() == 72)
-            add("\n     X");
-        if (barred)
-            place = next_place();
-        text[length++] = *at;
-        laid++;
-    }
-    return place;
-}
-
-/* After these cards the statement has this number however it is laid out: 24 at
-   its bar, any other at its first card. */
-static bool refused(const char *cards, const char *statement, unsigned number)
-{
-    static const char *const between[] = { "", "C\n", "*    1)\nC\n", "     1\nC\n     2  \n" };
-    static const char *const after[] =
-        { "", "     1\n", "     1   \nC )\n     2\n", "\n", "C\n      PROP 0\n      END\n" };
-    for (size_t first = 0; first <= strlen(statement) && first <= 40; first++)
-        for (int kind = 0; kind < 4 * 4 * 5; kind++) {
-            struct layout layout =
-                { first, kind % 2, kind / 2 % 2, between[kind / 4 % 4], after[kind / 16] };
-            begin();
-            add(cards);
-            uint64_t first_card = next_place() / 100;
-            uint64_t place = lay(statement, &layout);
-            add_times(" ", layout.blanks);
-            add("\n");
-            add(layout.after);
-            if (!cards_give(number, number == 24 ? place : first_card))
-                return false;
-        }
-    return true;
-}
-
-#define VARS_2 "      VARS 2\n"
-#define INIT_2 VARS_2 "      INIT 00\n"
-#define EQUATION_2 INIT_2 "      V0=0\n"
-#define PROP_2 EQUATION_2 "      V1=0\n      PROP 0\n"
-#define END_2 PROP_2 "      END\n"
-
-static void statements_not_due(void)
-{
-    static const struct {
-        const char *cards;
-        const char *statement[24];
-    } wrong[] = {
-        { "", { "", "VARS", "VARS65", "VARS99", "VARS04", "VARS100", "VARS4X", "VARSX", "VAR4", "vars4",
-                "INIT", "INIT0", "V0=0", "V0=(", "V0=", "PROP0", "PROP(", "PROP", "END" } },
-        { VARS_2, { "", "INI", "NIT00", "00", "I", "init00", "VARS2", "VARS", "V0=0", "V0=(", "V0=",
-                    "PROP0", "PROP(", "PROP", "END" } },
-        { INIT_2, { "", "V", "V0", "V=0", "V01=0", "V00=0", "V100=0", "V01=(", "V0)", "V0~=0", "VV0=0",
-                    "v0=0", "VARS2", "VARS4", "VARS", "INI", "INIV0", "PRO", "PRO0", "=0", "(0&1)", "END",
-                    "EN" } },
-        { EQUATION_2, { "", "INIT00", "INIT0", "INIT", "INIT2", "INI", "V", "V1", "V01=(", "VARS2", "PRO0",
-                        "END" } },
-        { PROP_2, { "", "PROP0", "PROP(", "PROP", "V0=0", "V0=(", "INIT00", "INIT2", "VARS2", "EN", "ENDX",
-                    "END0", "ENDEND", "end" } },
-        { END_2, { "", "END", "VARS2", "INIT00", "INIT2", "V0=0", "V0=(", "PROP0", "PROP", "X" } }
-    };
-    for (size_t i = 0; i < sizeof wrong / sizeof wrong[0]; i++)
-        for (size_t k = 0; k < 24 && wrong[i].statement[k]; k++)
-            EXPECT(refused(wrong[i].cards, wrong[i].statement[k], 23));
-}
-
-static void wrong_digits(void)
-{
-    static const char *const wrong[] = { "INIT", "INIT0", "INIT1", "INIT000", "INIT0010", "INIT2", "INIT02",
-                                         "INIT20", "INIT0X", "INITV0", "INIT=00", "INIT00=", "INIT(0", "INITINIT" };
-    for (size_t i = 0; i < sizeof wrong / sizeof wrong[0]; i++) {
-        EXPECT(refused(VARS_2, wrong[i], 25));
-        EXPECT(refused(INIT_2, wrong[i], 25));
-    }
-    EXPECT(refused("      VARS 0\n", "INIT0", 25));
-    EXPECT(refused("      VARS 0\n      INIT\n", "INIT1", 25));
-    /* 25 goes before 12. */
-    begin();
-    card("VARS 1");
-    add_times("      INIT 0\n", 64);
-    card("INIT 00");
-    EXPECT(cards_give(25, 66));
-}
-
-static void broken_expressions(void)
-{
-    static const char *const broken[] = {
-        /* An operand should begin. */
-        "V0=|", "V0=|)", "V0=|&", "V0=|2", "V0=|=0", "V0=|v0", "V0=|U1", "V0=|PROP", "V0=~|", "V0=~|+0",
-        "V0=X|)", "V0=XFG|W", "V0=(|", "V0=(|)", "V0=(0&|", "V0=(0&|)", "V0=(V0U|W1)", "V0=((V0+1)&~|=", "PROP|",
-        "PROP|=0", "PROP|PROP0", "PROPG|", "PROP(FV0W|9)",
-        /* A number should. */
-        "V0=V|", "V0=V|V0", "V0=(V|&V0)", "V0=~V|~0", "PROPV|X",
-        /* Its digits are too many. */
-        "V0=V0|0", "V0=V0|1", "V0=V10|0", "V0=V99|9", "V0=(V0|1&0)", "V0=(V64|0+0)", "PROPV63|1",
-        /* One of & + U W should follow, or a parenthesis. */
-        "V0=(0|", "V0=(0|)", "V0=(V1|V0)", "V0=(V12|", "V0=(0|=1)", "V0=(0|~1)", "V0=((0&1)|)", "V0=(0&1|",
-        "V0=(0&1|&0)", "V0=(0&(0&1)|", "PROP(0U1|U0)", "PROP(0|X1)", "PROP((0W1)U1|V",
-        /* Nothing should. */
-        "V0=0|0", "V0=1|V1", "V0=V1|&V0", "V0=V1|=0", "V0=(0&1)|)", "V0=~0|~", "PROP0|)", "PROPV1|U0", "PROPG(0U1)|(",
-        /* No rule but the grammar is asked: not 9, 10 and 11. */
-        "V9=|", "V99=V98|)", "V2=(V3UX|)", "V64=G(V65W|", "V0=X(0UF|&", "PROPV2|)",
-        "V0=~~~~~~~~~~~~~~~~~~~~~~~~~~~~~~~~|", "V0=~~~~~~~~~~~~~~~~~~~~~~~~~~~~~~~~|)",
-        "V0=((((((((((((((((((((((((((((((((|", "V0=XXXXXXXXXXXXXXXXXXXXXXXXXXXXXXXX|U0",
-        "V0=(V0|)&~~~~~~~~~~~~~~~~~~~~~~~~~~~~~~~~~~0"
-    };
-    for (size_t i = 0; i < sizeof broken / sizeof broken[0]; i++) {
-        EXPECT(refused(INIT_2, broken[i], 24));
-        EXPECT(refused(EQUATION_2, broken[i], 24));
-    }
-    /* The places as they are typed. */
-    EXPECT(third_broken("PROP", "", 0, "", 3, 11));
-    EXPECT(third_broken("V0=", "", 0, "", 3, 10));
-    EXPECT(third_broken("V0=", " ", 62, "(", 3, 73));
-    EXPECT(third_broken("V0=", " ", 62, "=", 3, 72));
-    EXPECT(third_broken("V0=", " ", 63, "(", 4, 8));
-    EXPECT(third_broken("V0=", " ", 63, "=", 4, 7));
-    EXPECT(third_broken("V0=V", " ", 60, "100", 4, 7));
-    EXPECT(third_broken("V 0 =  ( V 0  ) ", "", 0, "", 3, 21));
-    /* 24 goes before 13 and 14. */
-    begin();
-    card("VARS 1");
-    card("INIT 0");
-    add_times("      V0=~~~~~~~V0\n", 256);
-    card("V0=~");
-    EXPECT(cards_give(24, 25911));
-    char property[400] = "PROP";
-    put_even(property + 4, 65);
-    EXPECT(third_gives(property, "", 0, "", 14));
-    EXPECT(third_broken(property, "", 0, ")", 7, 69));
-    /* The first statement that is broken is named, and a card at fault goes before it. */
-    begin();
-    add(INIT_2 "      V0=0&\n      V1=)\n      PROP\n");
-    EXPECT(cards_give(24, 311));
-    add("     7\n\n     7\n");
-    EXPECT(cards_give(6, 8));
-    /* 11 keeps the first card. */
-    begin();
-    add(INIT_2 "      V0=\nC\n     1");
-    add_times("~", 32);
-    add("\n     20)\n");
-    EXPECT(cards_give(11, 3));
-}
-
-static void missing_statements(void)
-{
-    static const char *const kept[] = { "C\n", VARS_2, INIT_2, EQUATION_2, PROP_2 };
-    static const char *const last[] = { "", "C\n", "\n", "*\n\nC" };
-    for (int i = 0; i < 5; i++) {
-        for (int k = 0; k < 4; k++) {
-            begin();
-            add(kept[i]);
-            add(last[k]);
-            EXPECT(cards_give(26, 0));
-        }
-        begin();
-        add(kept[i]);
-        add("     1\nC\n");
-        EXPECT(i ? cards_give(26, 0) : cards_give(6, 2));
-    }
-    /* 26 goes before 15. */
-    begin();
-    add(EQUATION_2 "      PROP 0\n");
-    EXPECT(cards_give(26, 0));
-    card("END");
-    EXPECT(cards_give(15, 1));
 }
 
 #define SET "010000000000000001\n"
@@ -1040,10 +806,6 @@ int main(void)
     run_lines();
     points_of_cards();
     comments_between_cards();
-    statements_not_due();
-    wrong_digits();
-    broken_expressions();
-    missing_statements();
     points_of_frames();
     truth();
     reading();

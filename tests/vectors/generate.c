@@ -194,7 +194,7 @@ enum { BUFFER = 65536, BEHIND = 16, ROOM_MOST = BUFFER - BEHIND, FILL = 0xA5 };
 static FILE *bundle, *expected;
 static long cases;
 static const char operations[] = "dDwWrRck";
-static long tally[sizeof operations][27];
+static long tally[sizeof operations][23];
 
 struct segment {
     int start, period, times;
@@ -1501,8 +1501,8 @@ static void named_lines(void)
     }
 }
 
-/* Statements in place of the one due, each form of 23, 24 and 25 among them, and
-   the neighbours of 24: 9, 10 and 11. */
+/* Statements in place of the one due, each form of 8 among them, and the
+   neighbours of 8: 9, 10 and 11. */
 static void forms(void)
 {
     static const char *const third[] = {
@@ -1942,9 +1942,9 @@ static void comments_inside(void)
         }
 }
 
-/* Bits: 0 for 24 or 16 at the right end, 1 for level 33, 2 for a variable
+/* Bits: 0 for 8 or 16 at the right end, 1 for level 33, 2 for a variable
    outside, 3 for X, 4 for one equation too many, 5 for a node too many, 6 for
-   24 or 16 at the left end. */
+   8 or 16 at the left end. */
 enum { SETS_OF_EQUATION = 128 };
 
 static void orders_of_one_equation(void)
@@ -2108,94 +2108,6 @@ static void pairs_of_faults(void)
             two_faults_of_claims(a, b);
 }
 
-/* A card that continues a statement of add_scattered; a blank one may stand before it. */
-static void add_continuation(int set)
-{
-    for (int more = asked(set, 0) && chance(15) ? 2 : 1; more; more--) {
-        if (asked(set, 1))
-            add_comments(&cards);
-        sprintf(word, "     %c", any_of("123456789+X*C"));
-        add_line(&cards, word);
-    }
-}
-
-/* A statement with its characters scattered over cards. Bits: 0 for continuations,
-   1 for comments among its cards, 2 for blanks around its characters, 3 for fields
-   that end in column 72, 4 for blank continuations after the last character. */
-static void add_scattered(const char *words, int set)
-{
-    int more = asked(set, 0) ? 10 : 0;
-    bool bare = *words == 0 || (more && chance(20)); /* the first card has no character */
-    add_line(&cards, bare ? "     0" : "      ");
-    if (bare && *words)
-        add_continuation(set);
-    for (; *words; words++) {
-        struct line *card = &cards.line[cards.lines - 1];
-        if (asked(set, 2))
-            pad_line(card, card->length < 68 ? card->length + below(4) : card->length);
-        bool last = words[1] == 0 || card->length == 71 || (more && chance(25));
-        if (last && asked(set, 3))
-            pad_line(card, 71);
-        card->byte[card->length++] = (uint8_t)*words;
-        if (last && words[1]) {
-            add_continuation(set);
-            more -= more > 0;
-        }
-    }
-    if (asked(set, 2))
-        pad_line(&cards.line[cards.lines - 1], below(81));
-    if (asked(set, 4))
-        add_continuation(set);
-}
-
-#define LEVEL_33 "~~~~~~~~~~~~~~~~~~~~~~~~~~~~~~~~"
-
-/* Each way in which a statement can have none of the forms due, with its characters
-   scattered in every way, mostly where an equation or the property is due. The
-   statements after it may be missing. */
-static void scattered_statements(void)
-{
-    enum { WAYS = 4 };
-    static const char *const causes[][WAYS] = {
-        { "V0=)", "V1=~&0", "PROP(0U=1)", "V0=(V1&+V0)" },          /* no operand */
-        { "V0=", "PROP", "V0=(V0&", "PROPXFG" },                    /* the end in place of one */
-        { "V0=VX0", "V1=(V&V1)", "PROPGV)", "V0=~V~0" },            /* no digit after V */
-        { "V0=V", "PROPV", "V1=(V0+V", "PROP(V1UV" },               /* the end there */
-        { "V0=V01", "V1=V100", "PROP(V999UV0)", "V0=(V0&V00)" },    /* a digit too many */
-        { "V0=(V0)", "V1=(V0V1)", "PROP(0~1)", "V0=((0&1)=1)" },    /* no operator between */
-        { "V0=(V0", "PROP(G0", "V1=(V12", "V0=((0+1)" },            /* the end there */
-        { "V0=(0&1&0)", "PROP(0U1W0)", "V1=(V0+V1V0)", "V0=(0&1(" }, /* no closing parenthesis */
-        { "V0=(0&1", "PROP(0UV1", "V1=(0&(0&1)", "V0=~(V0+~V1" },   /* the end there */
-        { "V0=0)", "V1=V0&V1", "PROP(0&1)(", "V0=~V1=0" },          /* something after it */
-        { "V9=(V8&)", "V99=X", "V0=(FV64U)", "V2=G(V3W" },          /* beside 9 and 10 */
-        { "V0=" LEVEL_33 ")", "PROP" LEVEL_33, "V1=(0)&" LEVEL_33 "0", "V0=" LEVEL_33 "V" },
-        { "INIT", "INIT0", "INIT000", "INIT0X" },
-        { "INIT2", "INIT001", "INIT1", "INIT=00" },
-        { "INI", "V0", "V01=0", "ENDX" },
-        { "", "V=0", "VARS65", "VARS4" },
-        { "V0=(V0&V1)", "PROPGV0", "INIT01", "END" }                /* right, where it is due */
-    };
-    static const char *const right[] = { "VARS2", "INIT00", "V0=V1", "V1=0", "PROPV0", "END" };
-    for (size_t i = 0; i < sizeof causes / sizeof causes[0]; i++)
-        for (int set = 0; set < 32; set++) {
-            int place = chance(80) ? 2 + below(2) : below(7);
-            bool replaced = chance(50), missing = chance(40);
-            cards.lines = 0;
-            for (int k = 0; k <= 6; k++) {
-                if (k == place)
-                    add_scattered(causes[i][below(WAYS)], set);
-                if (k < 6 && (k < place || !missing) && (k != place || !replaced))
-                    add_scattered(right[k], 0);
-            }
-            if (chance(20))
-                add_aside(&cards);
-            join(&one, &cards);
-            if (chance(20))
-                one.length--;
-            emit_deck(card_operation(), &one);
-        }
-}
-
 /* One change of a byte or a line, whatever it hits. */
 static void mutate(struct sheet *sheet, const char *likely)
 {
@@ -2297,11 +2209,11 @@ static void put_table(void)
     for (const char *o = operations; *o; o++)
         printf("%7c", *o);
     printf("%8s\n", "all");
-    for (int number = 0; number <= 26; number++) {
+    for (int number = 0; number <= 22; number++) {
         long all = 0;
         for (const char *o = operations; *o; o++)
             all += tally[o - operations][number];
-        if (number == 8 || number == 18 || number == 19) /* no reply has them */
+        if (number == 18 || number == 19)
             continue;
         printf("%6d", number);
         for (const char *o = operations; *o; o++)
@@ -2343,7 +2255,6 @@ int main(int count, char **words)
     orders_of_a_claim();
     pairs_of_faults();
     deck_and_claim_faults();
-    scattered_statements();
     while (cases < wanted)
         switch (below(6)) {
         case 0: mutated_cards(); break;

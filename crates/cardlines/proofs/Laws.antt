@@ -12,7 +12,7 @@ use Rattle.lists.specs.Lists.{chosen, stands, firsts, padded}
 use Rattle.lists.specs.Texts.{bytes}
 use Rattle.lists.proofs.Laws.{take-padded, padded_snoc, stands-firsts, true_stands, false_stands, firsts_new, firsts_again, length-firsts}
 use Rattle.decks.specs.declared.Answer.{Answer}
-use Rattle.decks.specs.declared.Answer.TheVariants.{Fine, NotDue, BadInitial, ManyInitials}
+use Rattle.decks.specs.declared.Answer.TheVariants.{Fine, NotDue, ManyInitials}
 use Rattle.decks.specs.Answers.{Outcome, Got, Refused}
 use Rattle.cards.specs.Grammar.{Number, NoNumber, read_number}
 use Rattle.cards.specs.Typed.{Typed}
@@ -24,7 +24,7 @@ use Rattle.grammar.specs.declared.Word.{Word}
 use Rattle.grammar.specs.declared.Binary.{Binary}
 use Rattle.cardlines.specs.declared.Held.{Held}
 use Rattle.cardlines.specs.declared.StatementRead.{StatementRead}
-use Rattle.cardlines.specs.Held.{told, due_number, Small, Holds, PropertyHeld, Came, refused_as, none?}
+use Rattle.cardlines.specs.Held.{due_number, Small, Holds, PropertyHeld, Came, refused_as, none?}
 
 pub not_true : (b : Bool) → not b ≡ true → b ≡ false
 not_true true e = sym e
@@ -119,7 +119,7 @@ module _ (n : ℕ) (cs : List ℕ) where
 
 -- ---- `VARS`
 
-vars-due : (n : ℕ) (cs : List ℕ) (t : Typed) → due_statement DueVars n told cs t ≡ on_word (86 ∷ 65 ∷ 82 ∷ 83 ∷ []) cs (λ rs. vars_statement n rs t) (Refused (NotDue n))
+vars-due : (n : ℕ) (cs : List ℕ) (t : Typed) → due_statement DueVars n cs t ≡ on_word (86 ∷ 65 ∷ 82 ∷ 83 ∷ []) cs (λ rs. vars_statement n rs t) (Refused (NotDue n))
 unfolding due_statement bytes
 vars-due n cs t = refl
 
@@ -127,38 +127,38 @@ pub vars-small : (h : Held) (k : ℕ) → Small h → k ≤ 64 → Small (record
 vars-small h k m l = record { variables-most = l; typed-most = m.typed-most; initials-most = m.initials-most; equations-most = m.equations-most; nodes-most = m.nodes-most }
 
 module _ (chars : List ℕ) (end n : ℕ) (h : Held) (w : Word) (s : Sofar) (inits lefts ends nodes' property : List ℕ) (H : Holds s h inits lefts ends nodes' property) (d : h.due ≡ 0) (W : Words chars 0 end (86 ∷ 65 ∷ 82 ∷ 83 ∷ []) w) where
-  vars_on : due_statement s.due n told (ahead chars 0 end) s.typed ≡ on_word (86 ∷ 65 ∷ 82 ∷ 83 ∷ []) (ahead chars 0 end) (λ rs. vars_statement n rs s.typed) (Refused (NotDue n))
-  vars_on = ap (λ (d : Due). due_statement d n told (ahead chars 0 end) s.typed) (is_vars s h inits lefts ends nodes' property H d) ∙ vars-due n (ahead chars 0 end) s.typed
+  vars_on : due_statement s.due n (ahead chars 0 end) s.typed ≡ on_word (86 ∷ 65 ∷ 82 ∷ 83 ∷ []) (ahead chars 0 end) (λ rs. vars_statement n rs s.typed) (Refused (NotDue n))
+  vars_on = ap (λ (d : Due). due_statement d n (ahead chars 0 end) s.typed) (is_vars s h inits lefts ends nodes' property H d) ∙ vars-due n (ahead chars 0 end) s.typed
 
-  pub vars_word : (r : StatementRead) → not w.found ≡ true → r ≡ refused_as (NotDue n) → Came (due_statement s.due n told (ahead chars 0 end) s.typed) r inits lefts ends nodes' property
+  pub vars_word : (r : StatementRead) → not w.found ≡ true → r ≡ refused_as (NotDue n) → Came (due_statement s.due n (ahead chars 0 end) s.typed) r inits lefts ends nodes' property
   vars_word r f q =
-      came_refused (due_statement s.due n told (ahead chars 0 end) s.typed) (NotDue n) r inits lefts ends nodes' property
+      came_refused (due_statement s.due n (ahead chars 0 end) s.typed) (NotDue n) r inits lefts ends nodes' property
       (vars_on ∙ on_none (86 ∷ 65 ∷ 82 ∷ 83 ∷ []) (ahead chars 0 end) (λ rs. vars_statement n rs s.typed) (Refused (NotDue n)) (words_none chars 0 end (86 ∷ 65 ∷ 82 ∷ 83 ∷ []) w W (not_true w.found f))) q
 
   module _ (f : not w.found ≡ false) (v : Digits) (N : Numbers chars w.next end v) where
-    vars_read : due_statement s.due n told (ahead chars 0 end) s.typed ≡ vars_statement n (ahead chars w.next end) s.typed
+    vars_read : due_statement s.due n (ahead chars 0 end) s.typed ≡ vars_statement n (ahead chars w.next end) s.typed
     vars_read = vars_on ∙ on_some (86 ∷ 65 ∷ 82 ∷ 83 ∷ []) (ahead chars 0 end) (λ rs. vars_statement n rs s.typed) (Refused (NotDue n)) (ahead chars w.next end) (words_some chars 0 end (86 ∷ 65 ∷ 82 ∷ 83 ∷ []) w W (not_false w.found f))
 
-    vars_refused : (r : StatementRead) → whole_number n 64 (ahead chars w.next end) ≡ Refused (NotDue n) → r ≡ refused_as (NotDue n) → Came (due_statement s.due n told (ahead chars 0 end) s.typed) r inits lefts ends nodes' property
+    vars_refused : (r : StatementRead) → whole_number n 64 (ahead chars w.next end) ≡ Refused (NotDue n) → r ≡ refused_as (NotDue n) → Came (due_statement s.due n (ahead chars 0 end) s.typed) r inits lefts ends nodes' property
     unfolding vars_statement
     vars_refused r e q =
         let z : vars_statement n (ahead chars w.next end) s.typed ≡ Refused (NotDue n) = simp (e, vars_statement) in
-        came_refused (due_statement s.due n told (ahead chars 0 end) s.typed) (NotDue n) r inits lefts ends nodes' property (vars_read ∙ z) q
+        came_refused (due_statement s.due n (ahead chars 0 end) s.typed) (NotDue n) r inits lefts ends nodes' property (vars_read ∙ z) q
 
-    pub vars-number : (r : StatementRead) → not v.ok ≡ true → r ≡ refused_as (NotDue n) → Came (due_statement s.due n told (ahead chars 0 end) s.typed) r inits lefts ends nodes' property
+    pub vars-number : (r : StatementRead) → not v.ok ≡ true → r ≡ refused_as (NotDue n) → Came (due_statement s.due n (ahead chars 0 end) s.typed) r inits lefts ends nodes' property
     vars-number r g q = vars_refused r (number_none n (ahead chars w.next end) (ahead chars v.next end) (numbers_none chars w.next end v N (not_true v.ok g))) q
 
     module _ (g : not v.ok ≡ false) (b : Bool) (B : b ≡ none? (ahead chars v.next end)) where
-      pub vars_more : (r : StatementRead) → not b ≡ true → r ≡ refused_as (NotDue n) → Came (due_statement s.due n told (ahead chars 0 end) s.typed) r inits lefts ends nodes' property
+      pub vars_more : (r : StatementRead) → not b ≡ true → r ≡ refused_as (NotDue n) → Came (due_statement s.due n (ahead chars 0 end) s.typed) r inits lefts ends nodes' property
       vars_more r c q =
           vars_refused r (number_more n (ahead chars w.next end) v.value (ahead chars v.next end) (numbers-some chars w.next end v N (not_false v.ok g)) (sym B ∙ not_true b c)) q
 
       module _ (c : not b ≡ false) (k : ℕ) (K : k ≡ v.value) where
-        pub vars_large : (r : StatementRead) → 64 < k → r ≡ refused_as (NotDue n) → Came (due_statement s.due n told (ahead chars 0 end) s.typed) r inits lefts ends nodes' property
+        pub vars_large : (r : StatementRead) → 64 < k → r ≡ refused_as (NotDue n) → Came (due_statement s.due n (ahead chars 0 end) s.typed) r inits lefts ends nodes' property
         vars_large r l q =
             vars_refused r (number_large n (ahead chars w.next end) v.value (ahead chars v.next end) (numbers-some chars w.next end v N (not_false v.ok g)) (sym B ∙ not_false b c) (omega (arith, l, K))) q
 
-        pub vars_fine : k ≤ 64 → Came (due_statement s.due n told (ahead chars 0 end) s.typed) (record { fine = true; answer = Fine; held = record { due = 1; count = k; typed = h.typed; initials = h.initials; equations = h.equations; used = h.used; size = h.size } }) inits lefts ends nodes' property
+        pub vars_fine : k ≤ 64 → Came (due_statement s.due n (ahead chars 0 end) s.typed) (record { fine = true; answer = Fine; held = record { due = 1; count = k; typed = h.typed; initials = h.initials; equations = h.equations; used = h.used; size = h.size } }) inits lefts ends nodes' property
         unfolding vars_statement
         vars_fine l =
             let t : Typed = s.typed in
@@ -178,7 +178,7 @@ module _ (chars : List ℕ) (end n : ℕ) (h : Held) (w : Word) (s : Sofar) (ini
 
 -- ---- `END`
 
-end_due : (n : ℕ) (cs : List ℕ) (t : Typed) → due_statement DueEnd n told cs t ≡ on_word (69 ∷ 78 ∷ 68 ∷ []) cs (λ rs. end_statement n rs t) (Refused (NotDue n))
+end_due : (n : ℕ) (cs : List ℕ) (t : Typed) → due_statement DueEnd n cs t ≡ on_word (69 ∷ 78 ∷ 68 ∷ []) cs (λ rs. end_statement n rs t) (Refused (NotDue n))
 unfolding due_statement bytes
 end_due n cs t = refl
 
@@ -196,22 +196,22 @@ pub end_small : (h : Held) → Small h → Small (record { due = 5; count = h.co
 end_small h m = record { variables-most = m.variables-most; typed-most = m.typed-most; initials-most = m.initials-most; equations-most = m.equations-most; nodes-most = m.nodes-most }
 
 module _ (chars : List ℕ) (end n : ℕ) (h : Held) (w : Word) (s : Sofar) (inits lefts ends nodes' property : List ℕ) (H : Holds s h inits lefts ends nodes' property) (d : h.due ≡ 4) (W : Words chars 0 end (69 ∷ 78 ∷ 68 ∷ []) w) where
-  end_on : due_statement s.due n told (ahead chars 0 end) s.typed ≡ on_word (69 ∷ 78 ∷ 68 ∷ []) (ahead chars 0 end) (λ rs. end_statement n rs s.typed) (Refused (NotDue n))
-  end_on = ap (λ (d : Due). due_statement d n told (ahead chars 0 end) s.typed) (is_end s h inits lefts ends nodes' property H d) ∙ end_due n (ahead chars 0 end) s.typed
+  end_on : due_statement s.due n (ahead chars 0 end) s.typed ≡ on_word (69 ∷ 78 ∷ 68 ∷ []) (ahead chars 0 end) (λ rs. end_statement n rs s.typed) (Refused (NotDue n))
+  end_on = ap (λ (d : Due). due_statement d n (ahead chars 0 end) s.typed) (is_end s h inits lefts ends nodes' property H d) ∙ end_due n (ahead chars 0 end) s.typed
 
-  pub end_word : (r : StatementRead) → not w.found ≡ true → r ≡ refused_as (NotDue n) → Came (due_statement s.due n told (ahead chars 0 end) s.typed) r inits lefts ends nodes' property
+  pub end_word : (r : StatementRead) → not w.found ≡ true → r ≡ refused_as (NotDue n) → Came (due_statement s.due n (ahead chars 0 end) s.typed) r inits lefts ends nodes' property
   end_word r f q =
-      came_refused (due_statement s.due n told (ahead chars 0 end) s.typed) (NotDue n) r inits lefts ends nodes' property
+      came_refused (due_statement s.due n (ahead chars 0 end) s.typed) (NotDue n) r inits lefts ends nodes' property
       (end_on ∙ on_none (69 ∷ 78 ∷ 68 ∷ []) (ahead chars 0 end) (λ rs. end_statement n rs s.typed) (Refused (NotDue n)) (words_none chars 0 end (69 ∷ 78 ∷ 68 ∷ []) w W (not_true w.found f))) q
 
   module _ (f : not w.found ≡ false) (b : Bool) (B : b ≡ none? (ahead chars w.next end)) where
-    end_read : due_statement s.due n told (ahead chars 0 end) s.typed ≡ end_statement n (ahead chars w.next end) s.typed
+    end_read : due_statement s.due n (ahead chars 0 end) s.typed ≡ end_statement n (ahead chars w.next end) s.typed
     end_read = end_on ∙ on_some (69 ∷ 78 ∷ 68 ∷ []) (ahead chars 0 end) (λ rs. end_statement n rs s.typed) (Refused (NotDue n)) (ahead chars w.next end) (words_some chars 0 end (69 ∷ 78 ∷ 68 ∷ []) w W (not_false w.found f))
 
-    pub end_wrong : (r : StatementRead) → not b ≡ true → r ≡ refused_as (NotDue n) → Came (due_statement s.due n told (ahead chars 0 end) s.typed) r inits lefts ends nodes' property
-    end_wrong r c q = came_refused (due_statement s.due n told (ahead chars 0 end) s.typed) (NotDue n) r inits lefts ends nodes' property (end_read ∙ end_more n (ahead chars w.next end) s.typed (sym B ∙ not_true b c)) q
+    pub end_wrong : (r : StatementRead) → not b ≡ true → r ≡ refused_as (NotDue n) → Came (due_statement s.due n (ahead chars 0 end) s.typed) r inits lefts ends nodes' property
+    end_wrong r c q = came_refused (due_statement s.due n (ahead chars 0 end) s.typed) (NotDue n) r inits lefts ends nodes' property (end_read ∙ end_more n (ahead chars w.next end) s.typed (sym B ∙ not_true b c)) q
 
-    pub end_fine : not b ≡ false → Came (due_statement s.due n told (ahead chars 0 end) s.typed) (record { fine = true; answer = Fine; held = record { due = 5; count = h.count; typed = h.typed; initials = h.initials; equations = h.equations; used = h.used; size = h.size } }) inits lefts ends nodes' property
+    pub end_fine : not b ≡ false → Came (due_statement s.due n (ahead chars 0 end) s.typed) (record { fine = true; answer = Fine; held = record { due = 5; count = h.count; typed = h.typed; initials = h.initials; equations = h.equations; used = h.used; size = h.size } }) inits lefts ends nodes' property
     end_fine c =
         subst (λ (o : Outcome Sofar). Came o (record { fine = true; answer = Fine; held = record { due = 5; count = h.count; typed = h.typed; initials = h.initials; equations = h.equations; used = h.used; size = h.size } }) inits lefts ends nodes' property)
         (sym (end_read ∙ end_fills n (ahead chars w.next end) s.typed (sym B ∙ not_false b c))) (
@@ -233,11 +233,11 @@ module _ (chars : List ℕ) (at end n : ℕ) (h : Held) (b : Binary) (s : Sofar)
   binaries : (f : Bool) → b.ok ≡ f → read_binary 0 s.typed.count 0 (ahead chars at end) ≡ chosen f (some b.state) none
   binaries f e = ap (λ (x : Held). read_binary 0 x.count 0 (ahead chars at end)) (sym H.held_is) ∙ sym B.told ∙ ap (λ (x : Bool). chosen x (some b.state) none) e
 
-  pub init_number : (r : StatementRead) (out : List ℕ) → not b.ok ≡ true → r ≡ refused_as (BadInitial n) → Came (init_statement n (ahead chars at end) s.typed) r out lefts ends nodes' property
+  pub init_number : (r : StatementRead) (out : List ℕ) → not b.ok ≡ true → r ≡ refused_as (NotDue n) → Came (init_statement n (ahead chars at end) s.typed) r out lefts ends nodes' property
   unfolding init_statement
   init_number r out f q =
-      let z : init_statement n (ahead chars at end) s.typed ≡ Refused (BadInitial n) = simp (binaries false (not_true b.ok f), init_statement) in
-      came_refused (init_statement n (ahead chars at end) s.typed) (BadInitial n) r out lefts ends nodes' property z q
+      let z : init_statement n (ahead chars at end) s.typed ≡ Refused (NotDue n) = simp (binaries false (not_true b.ok f), init_statement) in
+      came_refused (init_statement n (ahead chars at end) s.typed) (NotDue n) r out lefts ends nodes' property z q
 
   module _ (f : not b.ok ≡ false) where
     pub init_many : (r : StatementRead) (out : List ℕ) → 64 < h.typed + 1 → r ≡ refused_as (ManyInitials n) → Came (init_statement n (ahead chars at end) s.typed) r out lefts ends nodes' property

@@ -15,12 +15,12 @@ use Rattle.lists.specs.Lists.{firsts, padded, splice, part}
 use Rattle.lists.proofs.Laws.{take-filled, splice-splice}
 use Rattle.logic.specs.Decks.{total_nodes}
 use Rattle.terms.specs.Nodes.{variable?}
-use Rattle.decks.specs.declared.Answer.TheVariants.{BadExpression, TooDeep}
+use Rattle.decks.specs.declared.Answer.TheVariants.{NotDue, TooDeep}
 use Rattle.cards.specs.Read.{begun}
 use Rattle.grammar.specs.Ahead.{ahead, Skips}
 use Rattle.grammar.proofs.Ahead.{ahead_end, ahead_ink}
 use Rattle.phrases.specs.Phrases.{refusal_of}
-use Rattle.cardlines.specs.Held.{held_of, none?, outside?, within_all_lem}
+use Rattle.cardlines.specs.Held.{held_of, none?, outside?, within_all}
 
 pub nothing_held : record { due = 0; count = 0; typed = 0; initials = 0; equations = 0; used = 0; size = 0 } ≡ held_of begun 0
 unfolding total_nodes firsts
@@ -38,7 +38,7 @@ outside_high count c w b e h q = q ∙ sym (simp (le-ltb c count (rw (← e) h),
 
 module _ (nodes : List ℕ) (end count i : ℕ) where
   abbrev pub WithinSofar : Type 0
-  WithinSofar = within_all_lem count (take end nodes) ≡ within_all_lem count (drop i (take end nodes))
+  WithinSofar = within_all count (take end nodes) ≡ within_all count (drop i (take end nodes))
 
   node_here : end ≤ length nodes → i < end → drop i (take end nodes) ≡ get_or nodes i 0 ∷ drop (i + 1) (take end nodes)
   node_here h k =
@@ -46,17 +46,17 @@ module _ (nodes : List ℕ) (end count i : ℕ) where
       ∙ ap (λ (y : ℕ). y ∷ drop (suc i) (take end nodes)) (get_or-take end nodes i 0 k)
       ∙ ap (λ (y : ℕ). get_or nodes i 0 ∷ drop y (take end nodes)) (sym (add-one i))
 
-  pub within_met : (b : Bool) → end ≤ length nodes → i < end → WithinSofar → b ≡ outside? count (get_or nodes i 0) → b ≡ true → false ≡ within_all_lem count (take end nodes)
-  unfolding within_all_lem
-  within_met b h k e p q = sym (e ∙ ap (within_all_lem count) (node_here h k) ∙ simp (sym p ∙ q, within_all_lem))
+  pub within_met : (b : Bool) → end ≤ length nodes → i < end → WithinSofar → b ≡ outside? count (get_or nodes i 0) → b ≡ true → false ≡ within_all count (take end nodes)
+  unfolding within_all
+  within_met b h k e p q = sym (e ∙ ap (within_all count) (node_here h k) ∙ simp (sym p ∙ q, within_all))
 
-  pub within_on : (b : Bool) → end ≤ length nodes → i < end → WithinSofar → b ≡ outside? count (get_or nodes i 0) → b ≡ false → within_all_lem count (take end nodes) ≡ within_all_lem count (drop (i + 1) (take end nodes))
-  unfolding within_all_lem
-  within_on b h k e p q = e ∙ ap (within_all_lem count) (node_here h k) ∙ simp (sym p ∙ q, within_all_lem)
+  pub within_on : (b : Bool) → end ≤ length nodes → i < end → WithinSofar → b ≡ outside? count (get_or nodes i 0) → b ≡ false → within_all count (take end nodes) ≡ within_all count (drop (i + 1) (take end nodes))
+  unfolding within_all
+  within_on b h k e p q = e ∙ ap (within_all count) (node_here h k) ∙ simp (sym p ∙ q, within_all)
 
-  pub within-done : end ≤ length nodes → end ≤ i → WithinSofar → true ≡ within_all_lem count (take end nodes)
-  unfolding within_all_lem
-  within-done h k e = sym (e ∙ ap (within_all_lem count) (drop_of_length-le (take end nodes) {i = i} (omega (arith, length-take-le end nodes h))))
+  pub within-done : end ≤ length nodes → end ≤ i → WithinSofar → true ≡ within_all count (take end nodes)
+  unfolding within_all
+  within-done h k e = sym (e ∙ ap (within_all count) (drop_of_length-le (take end nodes) {i = i} (omega (arith, length-take-le end nodes h))))
 
 -- ---- the rest of a statement
 
@@ -69,11 +69,11 @@ rest_none chars at end p h s = by_cases (dec_lt p end) here off
     off : (p < end → ⊥) → leb end p ≡ none? (ahead chars at end)
     off l = le-leb end p (omega arith) ∙ sym (ap none? (sym s.same ∙ ahead_end chars p end (omega arith)))
 
-pub refusal_wrong : (n left stop : ℕ) → stop ≡ 1 → BadExpression left ≡ refusal_of n left stop
-refusal_wrong n left stop e = simp (eq-eqb stop 1 e)
+pub refusal_wrong : (n stop : ℕ) → stop ≡ 1 → NotDue n ≡ refusal_of n stop
+refusal_wrong n stop e = simp (eq-eqb stop 1 e)
 
-pub refusal_deep : (n left stop : ℕ) → (stop ≡ 1 → ⊥) → TooDeep n ≡ refusal_of n left stop
-refusal_deep n left stop e = simp (ne_eqb stop 1 e)
+pub refusal_deep : (n stop : ℕ) → (stop ≡ 1 → ⊥) → TooDeep n ≡ refusal_of n stop
+refusal_deep n stop e = simp (ne_eqb stop 1 e)
 
 -- ---- the property stored
 

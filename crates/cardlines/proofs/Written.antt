@@ -28,7 +28,7 @@ use Rattle.grammar.specs.Ahead.{ahead}
 use Rattle.phrases.specs.declared.Phrase.{Phrase}
 use Rattle.phrases.specs.Phrases.{refusal_of, TellsWhole, Fills}
 use lib.Pow.{pow-lt}
-use Rattle.cardlines.specs.Held.{told, outside?, within_all_lem, ExprCame}
+use Rattle.cardlines.specs.Held.{outside?, within_all, ExprCame}
 
 -- ---- variables among the first
 
@@ -71,22 +71,22 @@ unfolding outside?
 outside_variable n v h = by_cases (dec_lt v n) (λ l. simp (lt-ltb v n l, outside?)) (λ l. simp (le-ltb v n (omega arith), lt-ltb v 256 h, outside?))
 
 module _ (n : ℕ) where
-  within_node : (c : ℕ) (cs : List ℕ) → outside? n c ≡ false → within_all_lem n (c ∷ cs) ≡ within_all_lem n cs
-  unfolding within_all_lem
-  within_node c cs e = simp (e, within_all_lem)
+  within_node : (c : ℕ) (cs : List ℕ) → outside? n c ≡ false → within_all n (c ∷ cs) ≡ within_all n cs
+  unfolding within_all
+  within_node c cs e = simp (e, within_all)
 
-  out_node : (c : ℕ) (cs : List ℕ) → outside? n c ≡ true → within_all_lem n (c ∷ cs) ≡ false
-  unfolding within_all_lem
-  out_node c cs e = simp (e, within_all_lem)
+  out_node : (c : ℕ) (cs : List ℕ) → outside? n c ≡ true → within_all n (c ∷ cs) ≡ false
+  unfolding within_all
+  out_node c cs e = simp (e, within_all)
 
-  within-append : (xs ys : List ℕ) → within_all_lem n (xs ++ ys) ≡ (within_all_lem n xs && within_all_lem n ys)
-  unfolding within_all_lem
+  within-append : (xs ys : List ℕ) → within_all n (xs ++ ys) ≡ (within_all n xs && within_all n ys)
+  unfolding within_all
   within-append [] ys = refl
   within-append (x ∷ xs) ys = go (outside? n x) refl (within-append xs ys)
     where
-      go : (b : Bool) → outside? n x ≡ b → within_all_lem n (xs ++ ys) ≡ (within_all_lem n xs && within_all_lem n ys) → within_all_lem n (x ∷ (xs ++ ys)) ≡ (within_all_lem n (x ∷ xs) && within_all_lem n ys)
-      go true p h = out_node x (xs ++ ys) p ∙ ap (λ (b : Bool). b && within_all_lem n ys) (sym (out_node x xs p))
-      go false p h = within_node x (xs ++ ys) p ∙ h ∙ ap (λ (b : Bool). b && within_all_lem n ys) (sym (within_node x xs p))
+      go : (b : Bool) → outside? n x ≡ b → within_all n (xs ++ ys) ≡ (within_all n xs && within_all n ys) → within_all n (x ∷ (xs ++ ys)) ≡ (within_all n (x ∷ xs) && within_all n ys)
+      go true p h = out_node x (xs ++ ys) p ∙ ap (λ (b : Bool). b && within_all n ys) (sym (out_node x xs p))
+      go false p h = within_node x (xs ++ ys) p ∙ h ∙ ap (λ (b : Bool). b && within_all n ys) (sym (within_node x xs p))
 
   const_high : (b : Bool) → 256 ≤ const_node b
   const_high true = omega arith
@@ -104,16 +104,16 @@ module _ (n : ℕ) where
   two_high Until = omega arith
   two_high Weak = omega arith
 
-  within-variable : (v : ℕ) → v < 256 → within_all_lem n (v ∷ []) ≡ ltb v n
-  unfolding within_all_lem
+  within-variable : (v : ℕ) → v < 256 → within_all n (v ∷ []) ≡ ltb v n
+  unfolding within_all
   within-variable v h = go (ltb v n) refl
     where
-      go : (b : Bool) → ltb v n ≡ b → within_all_lem n (v ∷ []) ≡ ltb v n
+      go : (b : Bool) → ltb v n ≡ b → within_all n (v ∷ []) ≡ ltb v n
       go true p = within_node v [] (outside_variable n v h ∙ ap not p) ∙ sym p
       go false p = out_node v [] (outside_variable n v h ∙ ap not p) ∙ sym p
 
-  pub within-code : (e : Expr) → Narrow e → within_all_lem n (code e) ≡ inside (written e) (first_vars n)
-  unfolding code written within_all_lem
+  pub within-code : (e : Expr) → Narrow e → within_all n (code e) ≡ inside (written e) (first_vars n)
+  unfolding code written within_all
   within-code (Const b) w = within_node (const_node b) [] (outside_operator n (const_node b) (const_high b)) ∙ sym (inside_nothing (first_vars n))
   within-code (Var v) w = within-variable v w ∙ sym (inside-only n v)
   within-code (One o a) w = within_node (node1 o) (code a) (outside_operator n (node1 o) (one_high o)) ∙ within-code a w
@@ -135,24 +135,24 @@ module _ (chars : List ℕ) (at end n count : ℕ) (out : List ℕ) (e : Phrase)
   pub expr_few : e.used ≤ end
   expr_few = omega (arith, F.few, F.within)
 
-  pub expr_refused : (a : Answer) (left : ℕ) → (e.stop ≡ 0 → ⊥) → left ≡ length (ahead chars e.next end) → a ≡ refusal_of n left e.stop → ExprCame count (whole_expr n told (ahead chars at end)) (record { fine = false; answer = a; nodes = 0; within = false; temporal = false }) after
-  expr_refused a left k l q = go (whole_expr n told (ahead chars at end)) (F.told n told)
+  pub expr_refused : (a : Answer) → (e.stop ≡ 0 → ⊥) → a ≡ refusal_of n e.stop → ExprCame count (whole_expr n (ahead chars at end)) (record { fine = false; answer = a; nodes = 0; within = false; temporal = false }) after
+  expr_refused a k q = go (whole_expr n (ahead chars at end)) (F.told n)
     where
-      go : (o : Outcome Expr) → TellsWhole n (length (ahead chars e.next end)) o out e after → ExprCame count o (record { fine = false; answer = a; nodes = 0; within = false; temporal = false }) after
+      go : (o : Outcome Expr) → TellsWhole n o out e after → ExprCame count o (record { fine = false; answer = a; nodes = 0; within = false; temporal = false }) after
       go (Got x) t = absurd (k t.0)
-      go (Refused b) t = (refl, q ∙ ap (λ (k : ℕ). refusal_of n k e.stop) l ∙ t.1)
+      go (Refused b) t = (refl, q ∙ t.1)
 
-  pub expr_got : (w t : Bool) → e.stop ≡ 0 → w ≡ within_all_lem count (take e.used after) → t ≡ some_temporal (part 0 e.used after) → ExprCame count (whole_expr n told (ahead chars at end)) (record { fine = true; answer = Fine; nodes = e.used; within = w; temporal = t }) after
-  expr_got w t k q p = go (whole_expr n told (ahead chars at end)) refl (F.told n told)
+  pub expr_got : (w t : Bool) → e.stop ≡ 0 → w ≡ within_all count (take e.used after) → t ≡ some_temporal (part 0 e.used after) → ExprCame count (whole_expr n (ahead chars at end)) (record { fine = true; answer = Fine; nodes = e.used; within = w; temporal = t }) after
+  expr_got w t k q p = go (whole_expr n (ahead chars at end)) refl (F.told n)
     where
-      go : (o : Outcome Expr) → whole_expr n told (ahead chars at end) ≡ o → TellsWhole n (length (ahead chars e.next end)) o out e after → ExprCame count o (record { fine = true; answer = Fine; nodes = e.used; within = w; temporal = t }) after
+      go : (o : Outcome Expr) → whole_expr n (ahead chars at end) ≡ o → TellsWhole n o out e after → ExprCame count o (record { fine = true; answer = Fine; nodes = e.used; within = w; temporal = t }) after
       go (Refused b) g y = absurd (y.0 k)
       go (Got x) g y =
-          let narrow : Narrow x = below_more 100 256 x (omega arith) (whole_expr_got n told (ahead chars at end) x g).2 in
+          let narrow : Narrow x = below_more 100 256 x (omega arith) (whole_expr_got n (ahead chars at end) x g).2 in
           let its : take (nodes x) after ≡ code x = ap₂ (λ (j : ℕ) (l : List ℕ). take j l) (sym (length-code x)) y.2 ∙ take-append_seam (code x) (drop (0 + length (code x)) out) in
           let used : take e.used after ≡ code x = ap (λ (j : ℕ). take j after) y.1 ∙ its in
           let less : e.used - 0 ≡ e.used = omega arith in
-          let ew : w ≡ inside (written x) (first_vars count) = q ∙ ap (within_all_lem count) used ∙ within-code count x narrow in
+          let ew : w ≡ inside (written x) (first_vars count) = q ∙ ap (within_all count) used ∙ within-code count x narrow in
           let et : t ≡ temporal x = p ∙ ap some_temporal (ap (λ (j : ℕ). take j after) less ∙ used) ∙ temporal_is x narrow in (
             ap (λ (j : ℕ). record { fine = true; answer = Fine; nodes = j; within = w; temporal = t }) y.1
                 ∙ ap₂ (λ (i j : Bool). record { fine = true; answer = Fine; nodes = nodes x; within = i; temporal = j }) ew et,

@@ -70,10 +70,6 @@ pub record Holds (s : Sofar) (h : Held) (inits lefts ends nodes property : List 
   pub equations_are : HoldsEquations s.typed.equations lefts ends nodes (length s.typed.equations)
   pub property_is : PropertyHeld s.due s.typed.property h.size property
 
--- Inside a statement 24 is told by the number of its characters left from the fault on.
-abbrev pub told : ℕ → ℕ
-told left = left
-
 -- A refusal, and zeros beside it.
 abbrev pub refused_as : Answer → StatementRead
 refused_as a = record { fine = false; answer = a; held = record { due = 0; count = 0; typed = 0; initials = 0; equations = 0; used = 0; size = 0 } }
@@ -93,9 +89,9 @@ unfoldable pub outside? : ℕ → ℕ → Bool
 outside? count c = elim (ltb c count) [ true ↦ false | false ↦ variable? c ]
 
 -- Whether the variables among the nodes are all among the first.
-unfoldable pub within_all_lem : ℕ → List ℕ → Bool
-within_all_lem count [] = true
-within_all_lem count (c ∷ cs) = elim (outside? count c) [ true ↦ false | false ↦ within_all_lem count cs ]
+unfoldable pub within_all : ℕ → List ℕ → Bool
+within_all count [] = true
+within_all count (c ∷ cs) = elim (outside? count c) [ true ↦ false | false ↦ within_all count cs ]
 
 -- What an expression came to, with the scratch row behind it.
 abbrev pub ExprCame : ℕ → Outcome Expr → ExprRead → List ℕ → Type 0

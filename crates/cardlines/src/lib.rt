@@ -6,7 +6,7 @@ ghost use Rattle.decks.specs.declared.Answer.TheVariants.{NotDue};
 ghost use Rattle.cards.specs.Read.{Sofar, begun, whole_expr, due_statement, equation_or_prop, equation_statement, prop_statement, init_statement};
 ghost use Rattle.grammar.specs.Ahead.{ahead};
 ghost use Rattle.phrases.specs.Phrases.{refusal_of};
-ghost use Rattle.cardlines.specs.Held.{held_of, Small, Lengths, Holds, told, Came, refused_as, none?, outside?, within_all_lem, ExprCame, WithCame, InitWord};
+ghost use Rattle.cardlines.specs.Held.{held_of, Small, Lengths, Holds, Came, refused_as, none?, outside?, within_all, ExprCame, WithCame, InitWord};
 
 // Which statements are due.
 pub const DUE_VARS: usize = 0;
@@ -86,7 +86,7 @@ pub fn stopped(a: decks::Answer) -> StatementRead
     }
 }
 
-// 23 at card n.
+// 8 at card n.
 fn not_due(n: u64) -> StatementRead
     ensures { result ≡ refused_as (NotDue n) }
 {
@@ -105,7 +105,7 @@ fn at_end(chars: &[u8], at: usize, end: usize) -> bool
 // Whether the variables among the first nodes of a row are all below a number.
 fn all_within(nodes: &[u16], end: usize, count: usize) -> bool
     requires { end ≤ length nodes.now }
-    ensures { result ≡ within_all_lem count (take end nodes.now) }
+    ensures { result ≡ within_all count (take end nodes.now) }
 {
     let mut i = 0;
     while i < end {
@@ -131,7 +131,7 @@ fn outside(node: u16, count: usize) -> bool
 // `VARS` n.
 fn vars_statement(chars: &[u8], end: usize, n: u64, h: Held) -> StatementRead
     requires { (end ≤ length chars.now) × Small h }
-    ensures { Small result.held × ((s : Sofar) (inits lefts ends nodes property : List ℕ) → Holds s h inits lefts ends nodes property → h.due ≡ 0 → Came (due_statement s.due n told (ahead chars.now 0 end) s.typed) result inits lefts ends nodes property) }
+    ensures { Small result.held × ((s : Sofar) (inits lefts ends nodes property : List ℕ) → Holds s h inits lefts ends nodes property → h.due ≡ 0 → Came (due_statement s.due n (ahead chars.now 0 end) s.typed) result inits lefts ends nodes property) }
 {
     let w = grammar::read_word(chars, 0, end, b"VARS");
     if !w.found {
@@ -166,7 +166,7 @@ fn vars_statement(chars: &[u8], end: usize, n: u64, h: Held) -> StatementRead
 // `END`.
 fn end_statement(chars: &[u8], end: usize, n: u64, h: Held) -> StatementRead
     requires { (end ≤ length chars.now) × Small h }
-    ensures { Small result.held × ((s : Sofar) (inits lefts ends nodes property : List ℕ) → Holds s h inits lefts ends nodes property → h.due ≡ 4 → Came (due_statement s.due n told (ahead chars.now 0 end) s.typed) result inits lefts ends nodes property) }
+    ensures { Small result.held × ((s : Sofar) (inits lefts ends nodes property : List ℕ) → Holds s h inits lefts ends nodes property → h.due ≡ 4 → Came (due_statement s.due n (ahead chars.now 0 end) s.typed) result inits lefts ends nodes property) }
 {
     let w = grammar::read_word(chars, 0, end, b"END");
     if !w.found {
@@ -204,7 +204,7 @@ fn init_statement(
 {
     let b = grammar::read_binary(chars, at, end, h.count);
     if !b.ok {
-        return stopped(decks::Answer::BadInitial(n));
+        return not_due(n);
     }
     let typed = h.typed + 1;
     if decks::INITIALS < typed {
@@ -241,12 +241,12 @@ fn init_statement(
     }
 }
 
-// The answer that the number of a stop stands for, so many characters before the statement's end.
-fn refusal(n: u64, stop: usize, left: usize) -> decks::Answer
-    ensures { result ≡ refusal_of n left stop }
+// The answer that the number of a stop stands for.
+fn refusal(n: u64, stop: usize) -> decks::Answer
+    ensures { result ≡ refusal_of n stop }
 {
     if stop == phrases::WRONG {
-        return decks::Answer::BadExpression(left as u64);
+        return decks::Answer::NotDue(n);
     }
     decks::Answer::TooDeep(n)
 }
@@ -261,14 +261,13 @@ fn expression_read(
     scratch: &mut [u16],
 ) -> ExprRead
     requires { (at ≤ end) × (end ≤ length chars.now) × (end ≤ length scratch.old) }
-    ensures { (length scratch.new ≡ length scratch.old) × (result.nodes ≤ end) × ExprCame count (whole_expr n told (ahead chars.now at end)) result scratch.new }
+    ensures { (length scratch.new ≡ length scratch.old) × (result.nodes ≤ end) × ExprCame count (whole_expr n (ahead chars.now at end)) result scratch.new }
 {
     let e = phrases::whole_expression(chars, at, end, scratch);
     if e.stop != phrases::WHOLE {
-        let left = grammar::left(chars, e.next, end);
         return ExprRead {
             fine: false,
-            answer: refusal(n, e.stop, left),
+            answer: refusal(n, e.stop),
             nodes: 0,
             within: false,
             temporal: false,
@@ -349,7 +348,7 @@ fn equation_statement(
     nodes: &mut [u16],
 ) -> StatementRead
     requires { (at ≤ end) × (end ≤ length chars.now) × (end ≤ length scratch.old) × (length scratch.old ≡ 1320) × Small h × Lengths lefts.old ends.old nodes.old }
-    ensures { (length scratch.new ≡ 1320) × Small result.held × ((s : Sofar) (inits property : List ℕ) → Holds s h inits lefts.old ends.old nodes.old property → Came (equation_statement n told (ahead chars.now at end) s.typed) result inits lefts.new ends.new nodes.new property) }
+    ensures { (length scratch.new ≡ 1320) × Small result.held × ((s : Sofar) (inits property : List ℕ) → Holds s h inits lefts.old ends.old nodes.old property → Came (equation_statement n (ahead chars.now at end) s.typed) result inits lefts.new ends.new nodes.new property) }
 {
     let v = grammar::read_number(chars, at, end);
     if !v.ok {
@@ -388,7 +387,7 @@ fn prop_statement(
     property: &mut [u16],
 ) -> StatementRead
     requires { (at ≤ end) × (end ≤ length chars.now) × (end ≤ length scratch.old) × (length scratch.old ≡ 1320) × Small h × (length property.old ≡ base.property_nodes) }
-    ensures { (length scratch.new ≡ 1320) × Small result.held × ((s : Sofar) (inits lefts ends nodes : List ℕ) → Holds s h inits lefts ends nodes property.old → Came (prop_statement n told (ahead chars.now at end) s.typed) result inits lefts ends nodes property.new) }
+    ensures { (length scratch.new ≡ 1320) × Small result.held × ((s : Sofar) (inits lefts ends nodes : List ℕ) → Holds s h inits lefts ends nodes property.old → Came (prop_statement n (ahead chars.now at end) s.typed) result inits lefts ends nodes property.new) }
 {
     let e = expression_read(chars, at, end, n, h.count, scratch);
     if !e.fine {
@@ -430,7 +429,7 @@ fn equation_or_prop(
     property: &mut [u16],
 ) -> StatementRead
     requires { (end ≤ length chars.now) × (end ≤ length scratch.old) × (length scratch.old ≡ 1320) × Small h × Lengths lefts.old ends.old nodes.old × (length property.old ≡ base.property_nodes) }
-    ensures { (length scratch.new ≡ 1320) × Small result.held × ((s : Sofar) (inits : List ℕ) → Holds s h inits lefts.old ends.old nodes.old property.old → Came (equation_or_prop n told (ahead chars.now 0 end) s.typed) result inits lefts.new ends.new nodes.new property.new) }
+    ensures { (length scratch.new ≡ 1320) × Small result.held × ((s : Sofar) (inits : List ℕ) → Holds s h inits lefts.old ends.old nodes.old property.old → Came (equation_or_prop n (ahead chars.now 0 end) s.typed) result inits lefts.new ends.new nodes.new property.new) }
 {
     let v = grammar::read_word(chars, 0, end, b"V");
     if v.found {
@@ -471,7 +470,7 @@ pub fn statement_read(
     property: &mut [u16],
 ) -> StatementRead
     requires { (end ≤ length chars.now) × (end ≤ length scratch.old) × (length scratch.old ≡ 1320) × Small h × (length inits.old ≡ base.initials) × Lengths lefts.old ends.old nodes.old × (length property.old ≡ base.property_nodes) }
-    ensures { (length scratch.new ≡ 1320) × Small result.held × ((s : Sofar) → Holds s h inits.old lefts.old ends.old nodes.old property.old → Came (due_statement s.due n told (ahead chars.now 0 end) s.typed) result inits.new lefts.new ends.new nodes.new property.new) }
+    ensures { (length scratch.new ≡ 1320) × Small result.held × ((s : Sofar) → Holds s h inits.old lefts.old ends.old nodes.old property.old → Came (due_statement s.due n (ahead chars.now 0 end) s.typed) result inits.new lefts.new ends.new nodes.new property.new) }
 {
     if h.due == DUE_VARS {
         return vars_statement(chars, end, n, h);

@@ -11,7 +11,7 @@ use borrow.Author.Tests.{lt-ltb, le-ltb, not_true, not_false}
 use Rattle.lists.specs.Lists.{Each}
 use Rattle.logic.specs.Decks.{Equation, Deck, base}
 use Rattle.decks.specs.declared.Answer.{Answer}
-use Rattle.decks.specs.declared.Answer.TheVariants.{Fine, TooLong, NoStatement}
+use Rattle.decks.specs.declared.Answer.TheVariants.{Fine, TooLong, NotDue}
 use Rattle.decks.specs.declared.DeckRead.{DeckRead}
 use Rattle.decks.specs.Answers.{Outcome, Got, Refused, afterwards}
 use Rattle.decks.specs.Readings.{complete}
@@ -59,7 +59,7 @@ due_none DueEnd e = absurd (omega arith)
 due_none DueNone e = refl
 
 -- A statement that is due and missing.
-end_missing : (s : Sofar) (u : Due) → s.due ≡ u → (due_number u ≡ 5 → ⊥) → cards_end s ≡ Refused NoStatement
+end_missing : (s : Sofar) (u : Due) → s.due ≡ u → (due_number u ≡ 5 → ⊥) → cards_end s ≡ Refused (NotDue 0)
 unfolding cards_end
 end_missing s DueVars e h = simp (e, cards_end)
 end_missing s DueInit e h = simp (e, cards_end)
@@ -140,10 +140,10 @@ module _ (text : List ℕ) (r : StatementRead) (inits lefts ends nodes property 
     pub statement_refused : AllCame → not r.fine ≡ true → x ≡ deck_read (Refused r.answer) → DeckCame (afterwards (statements_read text) cards_end) x inits lefts ends nodes property
     statement_refused c f q = refused_came (afterwards (statements_read text) cards_end) r.answer x inits lefts ends nodes property q (ap (λ (o : Outcome Sofar). afterwards o cards_end) (all_refused c (not_true r.fine f)))
 
-    pub statement_missing : AllCame → not r.fine ≡ false → (r.held.due ≡ 5 → ⊥) → x ≡ deck_read (Refused NoStatement) → DeckCame (afterwards (statements_read text) cards_end) x inits lefts ends nodes property
+    pub statement_missing : AllCame → not r.fine ≡ false → (r.held.due ≡ 5 → ⊥) → x ≡ deck_read (Refused (NotDue 0)) → DeckCame (afterwards (statements_read text) cards_end) x inits lefts ends nodes property
     statement_missing c f d q =
         let (s, e, h) = all_held c (not_false r.fine f) in
-        refused_came (afterwards (statements_read text) cards_end) NoStatement x inits lefts ends nodes property q
+        refused_came (afterwards (statements_read text) cards_end) (NotDue 0) x inits lefts ends nodes property q
         (ap (λ (o : Outcome Sofar). afterwards o cards_end) e ∙ end_missing s s.due refl (λ n. d (ap (λ (y : Held). y.due) h.held_is ∙ n)))
 
     pub deck_finished : (tl te tn : List ℕ) → AllCame → not r.fine ≡ false → r.held.due ≡ 5 → Sorts tl te tn → ((s : Sofar) → Sorted s r.held inits tl te tn property → DeckCame (complete (deck_of s.typed)) x inits tl te tn property)
@@ -157,7 +157,7 @@ module _ (text : List ℕ) (r : StatementRead) (inits lefts ends nodes property 
 
 -- The cases of an answer but the first, by their places.
 abbrev others : List ℕ
-others = 1 ∷ 2 ∷ 3 ∷ 4 ∷ 5 ∷ 6 ∷ 7 ∷ 8 ∷ 9 ∷ 10 ∷ 11 ∷ 12 ∷ 13 ∷ 14 ∷ 15 ∷ 16 ∷ 17 ∷ 18 ∷ 19 ∷ 20 ∷ 21 ∷ 22 ∷ 23 ∷ []
+others = 1 ∷ 2 ∷ 3 ∷ 4 ∷ 5 ∷ 6 ∷ 7 ∷ 8 ∷ 9 ∷ 10 ∷ 11 ∷ 12 ∷ 13 ∷ 14 ∷ 15 ∷ 16 ∷ 17 ∷ 18 ∷ 19 ∷ 20 ∷ []
 
 not_fine : (a : Answer) → OneOf others (tag_of answers a) → a ≡ Fine → ⊥
 not_fine a h e = miss others 0 tt (subst (λ (b : Answer). OneOf others (tag_of answers b)) e h)

@@ -114,7 +114,8 @@ module _ (text : List ℕ) (p : Place) (held : Held) (inits lefts ends nodes pro
   from_it = w.rest_is ∙ ap (λ (ss : List Statement). walk statement_read k ss before) t.first
 
   came_to : CameTo (statement_read k t.its before)
-  came_to = t.came k before w.holds
+  unfolding statement_read
+  came_to = t.came before w.holds
 
   pub walked_refused : not r.read.fine ≡ true → CameTo (statements_read text)
   walked_refused f = go (statement_read k t.its before) refl came_to

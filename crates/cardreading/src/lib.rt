@@ -1,6 +1,5 @@
 // The reader of cards: a text of cards read as a deck.
-ghost use Rattle.std.specs.Prelude.{◌≡◌, true, ◌≤◌, length, drop};
-ghost use Rattle.logic.specs.Decks.{base};
+ghost use Rattle.std.specs.Prelude.{◌≡◌, true, drop};
 ghost use Rattle.decks.specs.declared.Answer.TheVariants.{Fine};
 ghost use Rattle.decks.specs.Answers.{afterwards};
 ghost use Rattle.decks.specs.Readings.{walk};
@@ -22,7 +21,7 @@ fn all_statements(
     nodes: &mut [u16],
     property: &mut [u16],
 ) -> cardlines::StatementRead
-    requires { (length text.now ≤ base.text) × Formed 1 (cards_of (drop 0 text.now)) × Empty inits.old scratch.old lefts.old ends.old nodes.old property.old }
+    requires { Formed 1 (cards_of (drop 0 text.now)) × Empty inits.old scratch.old lefts.old ends.old nodes.old property.old }
     ensures { Came (walk statement_read 1 (statements_of (cards_of text.now)) begun) result inits.new lefts.new ends.new nodes.new property.new }
 {
     let mut held = cardlines::nothing();
@@ -61,7 +60,7 @@ fn second_pass(
     nodes: &mut [u16],
     property: &mut [u16],
 ) -> decks::DeckRead
-    requires { (length text.now ≤ base.text) × Formed 1 (cards_of (drop 0 text.now)) × Blank inits.old lefts.old ends.old nodes.old property.old }
+    requires { Formed 1 (cards_of (drop 0 text.now)) × Blank inits.old lefts.old ends.old nodes.old property.old }
     ensures { DeckCame (afterwards (walk statement_read 1 (statements_of (cards_of text.now)) begun) cards_end) result inits.new lefts.new ends.new nodes.new property.new }
 {
     let mut scratch = [0u16; statements::CHARACTERS];
@@ -72,7 +71,7 @@ fn second_pass(
     }
     let held = r.held;
     if held.due != cardlines::DUE_NONE {
-        return decks::refused(decks::Answer::NoStatement);
+        return decks::refused(decks::Answer::NotDue(0));
     }
     sorting::sort(lefts, ends, nodes, held.equations, held.count);
     cardends::finished(held, inits, lefts, ends, nodes, property)

@@ -18,7 +18,6 @@ use Rattle.decks.specs.Readings.{walk, left_set, complete}
 use Rattle.decks.proofs.Outcomes.{answer_of}
 use Rattle.cards.specs.Card.{blank, columns, every, Continuing, kind_of, Continued, opened, card_in_form}
 use Rattle.cards.specs.Statement.{gathered}
-use Rattle.cards.specs.Places.{places_from, place_left}
 use Rattle.cards.specs.Grammar.{second_digit, read_number, sign_of, joint_of, past, past_joint, read_expr}
 use Rattle.cards.specs.Typed.{Typed, rising_from, deck_of}
 use Rattle.cards.specs.Read.{behind, whole_expr, whole_number, vars_statement, read_binary, init_statement, with_equation, equation_statement, prop_statement, end_statement, equation_or_prop, due_statement, statement_read, cards_end, read_cards}
@@ -115,16 +114,16 @@ form_rows =
     (text ("      VA" ∷ replicate 19 "     1" ++ "     9RS 0" ∷ after_vars), says 7 1 21) ∷
     (text ("      VA" ∷ "C" ∷ replicate 18 "     1" ++ "*" ∷ "     9RS 0" ∷ after_vars), says 0 0 0) ∷
     (text ("      VA" ∷ "C" ∷ replicate 19 "     1" ++ "*" ∷ "     9RS 0" ∷ after_vars), says 7 1 23) ∷
-    -- `0` in column 6 opens a statement: 23 where nothing is on it, also after END.
+    -- `0` in column 6 opens a statement: 8 where nothing is on it, also behind END.
     (text ("     0VARS 0" ∷ after_vars), says 0 0 0) ∷
-    (text ("      VARS 0" ∷ "     0" ∷ after_vars), says 23 1 2) ∷
-    (text (smallest ++ ("     0" ∷ [])), says 23 1 5) ∷
+    (text ("      VARS 0" ∷ "     0" ∷ after_vars), says 8 1 2) ∷
+    (text (smallest ++ ("     0" ∷ [])), says 8 1 5) ∷
     -- Comments and blank cards may stand behind END.
     (text (smallest ++ ("C END" ∷ "" ∷ "* END" ∷ [])), says 0 0 0) ∷
-    -- 26: the text ends before a statement that is due: empty, comments and blank cards alone, END missing.
-    ([], says 26 1 0) ∷
-    (text ("C" ∷ "" ∷ []), says 26 1 0) ∷
-    (text ("      VARS 0" ∷ "      INIT" ∷ "      PROP 0" ∷ []), says 26 1 0) ∷
+    -- The text ends before a statement that is due: empty, comments and blank cards alone, END missing.
+    ([], says 8 1 0) ∷
+    (text ("C" ∷ "" ∷ []), says 8 1 0) ∷
+    (text ("      VARS 0" ∷ "      INIT" ∷ "      PROP 0" ∷ []), says 8 1 0) ∷
     []
 
 form_answers : Answered form_rows
@@ -135,34 +134,28 @@ form_answers = refl
 statement_rows : List Row
 unfolding joined bytes
 statement_rows =
-    -- 23: a statement that is not due, at its card; its inside is not read.
-    (text ("      VARS 0" ∷ "      INIT" ∷ "      END" ∷ []), says 23 1 3) ∷
-    (text ("      VARS 1" ∷ "      INIT 0" ∷ "      V0=0" ∷ "      INIT 0" ∷ "      PROP 0" ∷ "      END" ∷ []), says 23 1 4) ∷
-    (text ("      VARS 1" ∷ "      INIT 0" ∷ "      V0=0" ∷ "      INIT 2" ∷ "      PROP 0" ∷ "      END" ∷ []), says 23 1 4) ∷
-    (text ("      PROP ~~~~~~~~~~~~~~~~~~~~~~~~~~~~~~~~~0" ∷ []), says 23 1 1) ∷
-    (text ("      VARS 1" ∷ "      V0=)" ∷ []), says 23 1 2) ∷
-    (text (smallest ++ ("      END" ∷ [])), says 23 1 5) ∷
-    -- Forms that are not whole, or not alone.
-    (text ("      VARS" ∷ []), says 23 1 1) ∷
-    (text ("      VARS 1" ∷ "      INI" ∷ []), says 23 1 2) ∷
-    (text ("      VARS 0" ∷ "      VARS4" ∷ []), says 23 1 2) ∷
-    (text (equation "      V0"), says 23 1 3) ∷
-    (text ("      VARS 0" ∷ "      INIT" ∷ "      PROP 0" ∷ "      ENDX" ∷ []), says 23 1 4) ∷
+    -- 8: a statement that is not due, at its card; its inside is not read.
+    (text ("      VARS 0" ∷ "      INIT" ∷ "      END" ∷ []), says 8 1 3) ∷
+    (text ("      VARS 1" ∷ "      INIT 0" ∷ "      V0=0" ∷ "      INIT 0" ∷ "      PROP 0" ∷ "      END" ∷ []), says 8 1 4) ∷
+    (text ("      PROP ~~~~~~~~~~~~~~~~~~~~~~~~~~~~~~~~~0" ∷ []), says 8 1 1) ∷
+    (text (smallest ++ ("      END" ∷ [])), says 8 1 5) ∷
     -- Numbers have one or two digits and no leading zero; n goes to 64; blanks are gone before: `VARS 1 2` is `VARS 12`.
-    (text ("      VARS 65" ∷ []), says 23 1 1) ∷
-    (text ("      VARS 01" ∷ []), says 23 1 1) ∷
+    (text ("      VARS 65" ∷ []), says 8 1 1) ∷
+    (text ("      VARS 01" ∷ []), says 8 1 1) ∷
     (text ("      VARS 1 2" ∷ "      INIT 0000 0000 0000" ∷ "      PROP 0" ∷ "      END" ∷ []), says 15 1 0) ∷
-    (text ("      VARS 2" ∷ "      INIT 00" ∷ "      V01=0" ∷ []), says 23 1 3) ∷
-    (text ("      VARS 1" ∷ "      INIT 0" ∷ "      V100=0" ∷ []), says 23 1 3) ∷
-    -- 25: INIT with too few or too many digits, or with another digit; the first card of the statement is named.
-    (text ("      VARS 1" ∷ "      INIT" ∷ []), says 25 1 2) ∷
-    (text ("      VARS 1" ∷ "      INIT 00" ∷ []), says 25 1 2) ∷
-    (text ("      VARS 1" ∷ "      INIT 2" ∷ []), says 25 1 2) ∷
-    (text ("      VARS 1" ∷ "      INIT 0" ∷ "      INIT" ∷ "     12" ∷ []), says 25 1 3) ∷
-    -- 24 and 11, whichever is met first: 32 `~` and then `0)`, `)` or nothing.
+    (text ("      VARS 2" ∷ "      INIT 00" ∷ "      V01=0" ∷ []), says 8 1 3) ∷
+    (text ("      VARS 1" ∷ "      INIT 0" ∷ "      V100=0" ∷ []), says 8 1 3) ∷
+    -- INIT with too few or too many digits, or with another digit.
+    (text ("      VARS 1" ∷ "      INIT" ∷ []), says 8 1 2) ∷
+    (text ("      VARS 1" ∷ "      INIT 00" ∷ []), says 8 1 2) ∷
+    (text ("      VARS 1" ∷ "      INIT 2" ∷ []), says 8 1 2) ∷
+    -- `(V1)` alone is wrong; the first card of the statement is named.
+    (text (equation "      V0=(V0)"), says 8 1 3) ∷
+    (text ("      VARS 1" ∷ "      INIT 0" ∷ "      V0=(V0" ∷ "     1&" ∷ "      PROP 0" ∷ "      END" ∷ []), says 8 1 3) ∷
+    -- 8 and 11, whichever is met first: 32 `~` and then `0)`, `)` or nothing.
     (text (equation "      V0=~~~~~~~~~~~~~~~~~~~~~~~~~~~~~~~~0)"), says 11 1 3) ∷
-    (text (equation "      V0=~~~~~~~~~~~~~~~~~~~~~~~~~~~~~~~~)"), says 24 1 342) ∷
-    (text (equation "      V0=~~~~~~~~~~~~~~~~~~~~~~~~~~~~~~~~"), says 24 1 342) ∷
+    (text (equation "      V0=~~~~~~~~~~~~~~~~~~~~~~~~~~~~~~~~)"), says 8 1 3) ∷
+    (text (equation "      V0=~~~~~~~~~~~~~~~~~~~~~~~~~~~~~~~~"), says 8 1 3) ∷
     (text (equation "      V0=~~~~~~~~~~~~~~~~~~~~~~~~~~~~~~~0"), says 0 0 0) ∷
     -- 9: outside the variables, on the left too, and before 10.
     (text (equation "      V0=V1"), says 9 1 3) ∷
@@ -171,9 +164,9 @@ statement_rows =
     (text ("      VARS 1" ∷ "      INIT 0" ∷ "      V0=0" ∷ "      PROP V1" ∷ []), says 9 1 4) ∷
     (text ("      VARS 64" ∷ "      INIT 0000000000000000000000000000000000000000000000000000000000000" ∷ "     1000" ∷ "      PROP V64" ∷ "      END" ∷ []), says 9 1 4) ∷
     (text ("      VARS 64" ∷ "      INIT 0000000000000000000000000000000000000000000000000000000000000" ∷ "     1000" ∷ "      PROP V63" ∷ "      END" ∷ []), says 15 1 0) ∷
-    -- 10: `X F G U W` in an equation; 24 goes before.
+    -- 10: `X F G U W` in an equation; 8 goes before.
     (text (equation "      V0=X0"), says 10 1 3) ∷
-    (text (equation "      V0=X)"), says 24 1 311) ∷
+    (text (equation "      V0=X)"), says 8 1 3) ∷
     (text (equation "      V0=(0U0)"), says 10 1 3) ∷
     -- 12: 64 INIT pass, equal ones counted; the next does not.
     (text ("      VARS 0" ∷ replicate 64 "      INIT" ++ ("      PROP 0" ∷ "      END" ∷ [])), says 0 0 0) ∷
@@ -184,47 +177,8 @@ statement_rows =
     []
 
 statement_answers : Answered statement_rows
-unfolding statement_rows joined bytes read_cards ended unended fronted stands walk card_in_form opened kind_of every columns gathered statement_read due_statement equation_or_prop end_statement prop_statement equation_statement with_equation init_statement read_binary vars_statement whole_number whole_expr places_from place_left behind read_expr past_joint past joint_of sign_of read_number second_digit cards_end complete left_set deck_of rising_from keep firsts others nodes written temporal total_nodes count_trailing_zeros
+unfolding statement_rows joined bytes read_cards ended unended fronted stands walk card_in_form opened kind_of every columns gathered statement_read due_statement equation_or_prop end_statement prop_statement equation_statement with_equation init_statement read_binary vars_statement whole_number whole_expr behind read_expr past_joint past joint_of sign_of read_number second_digit cards_end complete left_set deck_of rising_from keep firsts others nodes written temporal total_nodes count_trailing_zeros
 statement_answers = refl
-
--- 24 names the card and the column of the first character at which no right statement can go on.
-place_rows : List Row
-unfolding joined bytes
-place_rows =
-    -- At the character: `(V0)` alone is wrong; something after a whole expression; the second operand missing, by the whole grammar.
-    (text (equation "      V0=(V0)"), says 24 1 313) ∷
-    (text (equation "      V0=0 0"), says 24 1 312) ∷
-    (text (equation "      V0=(0U)"), says 24 1 313) ∷
-    (text ("      VARS 0" ∷ "      INIT" ∷ "      PROP 0&0" ∷ []), says 24 1 313) ∷
-    -- The digit that cannot follow.
-    (text (equation "      V0=V01"), says 24 1 312) ∷
-    (text (equation "      V0=V100"), says 24 1 313) ∷
-    -- 24 goes before 9.
-    (text (equation "      V9=)"), says 24 1 310) ∷
-    -- The statement ends: the column after its last character that is no blank.
-    (text (equation "      V0="), says 24 1 310) ∷
-    (text ("      VARS 0" ∷ "      INIT" ∷ "      PROP" ∷ []), says 24 1 311) ∷
-    (text (equation "      V0=~   "), says 24 1 311) ∷
-    -- Blanks around the fault.
-    (text (equation "      V 0 = ~  )  "), says 24 1 316) ∷
-    -- On a continuation card: its own number, comments counted.
-    (text ("      VARS 1" ∷ "      INIT 0" ∷ "      V0=(V0" ∷ "     1V0)" ∷ []), says 24 1 407) ∷
-    (text ("      VARS 1" ∷ "      INIT 0" ∷ "      V0=(V0" ∷ "C" ∷ "     1 & )" ∷ []), says 24 1 510) ∷
-    -- The end on a continuation card, and blank continuations after the last character, which do not move it.
-    (text ("      VARS 1" ∷ "      INIT 0" ∷ "      V0=(V0" ∷ "     1&" ∷ "      PROP 0" ∷ "      END" ∷ []), says 24 1 408) ∷
-    (text ("      VARS 1" ∷ "      INIT 0" ∷ "      V0=(V0" ∷ "     1&" ∷ "     2" ∷ []), says 24 1 408) ∷
-    (text ("      VARS 1" ∷ "      INIT 0" ∷ "      V0=(V0" ∷ "     1" ∷ "     2" ∷ []), says 24 1 313) ∷
-    -- The last character in column 72: it is the fault itself, or the statement ends in column 73, numbered or not.
-    (text (equation "      V0=                                                              )"), says 24 1 372) ∷
-    (text (equation "      V0=                                                              ~"), says 24 1 373) ∷
-    (text (equation "      V0=                                                              ~00000030"), says 24 1 373) ∷
-    (text ("      VARS 1" ∷ "      INIT 0" ∷ "      V0=                                                              ~" ∷ "     1" ∷ []), says 24 1 373) ∷
-    (text ("      VARS 1" ∷ "      INIT 0" ∷ "      V0=                                                              ~" ∷ "     1)" ∷ []), says 24 1 407) ∷
-    []
-
-place_answers : Answered place_rows
-unfolding place_rows joined bytes read_cards ended unended fronted stands walk card_in_form opened kind_of every columns gathered statement_read due_statement equation_or_prop end_statement prop_statement equation_statement with_equation init_statement read_binary vars_statement whole_number whole_expr places_from place_left behind read_expr past_joint past joint_of sign_of read_number second_digit cards_end complete left_set deck_of rising_from keep firsts others nodes written temporal total_nodes count_trailing_zeros
-place_answers = refl
 
 -- ---- the sizes of equations and of the property
 
@@ -260,10 +214,10 @@ unfolding tree with_equation nodes written temporal total_nodes
 nodes_2049 = refl
 
 -- 14: a property of 128 nodes passes, one of 129 does not.
-property_128 : answer_of (prop_statement 9 (λ k. k) (spelling (One Not (tree 6))) (typed_with [])) ≡ Fine
+property_128 : answer_of (prop_statement 9 (spelling (One Not (tree 6))) (typed_with [])) ≡ Fine
 unfolding tree prop_statement spelling whole_expr read_expr past_joint past joint_of sign_of nodes written
 property_128 = refl
 
-property_129 : prop_statement 9 (λ k. k) (spelling (One Not (One Not (tree 6)))) (typed_with []) ≡ Refused (ManyNodes 9)
+property_129 : prop_statement 9 (spelling (One Not (One Not (tree 6)))) (typed_with []) ≡ Refused (ManyNodes 9)
 unfolding tree prop_statement spelling whole_expr read_expr past_joint past joint_of sign_of nodes written
 property_129 = refl

@@ -47,10 +47,10 @@ pub columns-placed : (a b : ℕ) (card : List ℕ) → columns a b card ≡ plac
 unfolding columns
 columns-placed a b card = take-placed (suc b - a) (suc b - a) (a - 1) card (omega arith)
 
-pub inked_pass : (c : ℕ) (cs : List ℕ) → eqb c blank ≡ true → inked (c ∷ cs) ≡ inked cs
+inked_pass : (c : ℕ) (cs : List ℕ) → eqb c blank ≡ true → inked (c ∷ cs) ≡ inked cs
 inked_pass c cs e = keep_fail (λ (x : ℕ). not (is_blank x)) c cs (ap not e)
 
-pub inked-keep : (c : ℕ) (cs : List ℕ) → eqb c blank ≡ false → inked (c ∷ cs) ≡ c ∷ inked cs
+inked-keep : (c : ℕ) (cs : List ℕ) → eqb c blank ≡ false → inked (c ∷ cs) ≡ c ∷ inked cs
 inked-keep c cs e = keep_pass (λ (x : ℕ). not (is_blank x)) c cs (ap not e)
 
 inked_next : (b : ℕ) (cs rest : List ℕ) → inked cs ≡ rest → inked (b ∷ cs) ≡ elim (eqb b blank) [ true ↦ rest | false ↦ b ∷ rest ]
@@ -61,7 +61,7 @@ inked_next b cs rest f = go (eqb b blank) refl
     go false e = inked-keep b cs e ∙ ap (λ (x : List ℕ). b ∷ x) f
 
 -- The inked places are the inked columns.
-pub inked-placed : (k i : ℕ) (card : List ℕ) → inked (placed i k card) ≡ ink_from (suc i) k card
+inked-placed : (k i : ℕ) (card : List ℕ) → inked (placed i k card) ≡ ink_from (suc i) k card
 unfolding placed ink_from keep
 inked-placed zero i card = refl
 inked-placed (suc k) i card =

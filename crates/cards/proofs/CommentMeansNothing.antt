@@ -1,31 +1,33 @@
 -- A comment means nothing: the cards of a text come to what they come to without their comments, but for the numbers of the cards that a refusal names (RULES 2.3).
-use mathlib.Core.Path.{◌≡◌, refl, sym, ap, ap₂, ◌∙◌, fun_ext}
+use mathlib.Core.Path.{◌≡◌, refl, sym, ap, ◌∙◌}
 use mathlib.Core.Logic.{inl, inr}
 use mathlib.Core.Bool.{Bool, true, false, not}
 use mathlib.Core.List.{List, [], ◌∷◌, ◌++◌, map, map-append}
-use Prim.Native.Nat.{ℕ, zero, suc, ◌+◌, ◌-◌, ◌*◌, ◌/◌, ◌%◌, ◌<◌, ◌≤◌}
-use native.Mathlib.Nat.{add-zero, mod-lt}
+use mathlib.Core.Option.{Option, none, some}
+use Prim.Native.Nat.{ℕ, suc, ◌+◌, ◌≤◌}
+use native.Mathlib.Nat.{add-zero}
 use native.Mathlib.Omega.{arith}
 use borrow.Author.Tests.{le-ltb, eqb-false}
-use lib.Dec.{eqb}
-use lib.ListN.{length, get_or, length-map, get_or-map}
+use lib.Dec.{ltb, eqb}
+use lib.ListN.{length, get_or}
 use Rattle.lists.specs.Lists.{Each, keep}
-use Rattle.lists.proofs.Laws.{each_map, each_default, keep_append, keep_all}
+use Rattle.lists.specs.Texts.{bytes}
+use Rattle.lists.proofs.Laws.{each_map, keep_append, keep_all}
+use Rattle.logic.specs.Expressions.{Expr}
 use Rattle.logic.specs.Decks.{Deck, base}
 use Rattle.decks.specs.declared.Answer.{Answer}
-use Rattle.decks.specs.declared.Answer.TheVariants.{Fine, TooLong, BadByte, TooWide, BadStart, BadNumber, NoneOpen, TooManyCards, Outside, Temporal, TooDeep, ManyInitials, ManyEquations, ManyNodes, NoEquation, BadFrame, NoRoom, NotInitial, NoStep, Holding, NotDue, BadExpression, BadInitial, NoStatement}
+use Rattle.decks.specs.declared.Answer.TheVariants.{Fine, TooLong, BadByte, TooWide, BadStart, BadNumber, NoneOpen, TooManyCards, NotDue, Outside, Temporal, TooDeep, ManyInitials, ManyEquations, ManyNodes, NoEquation, BadFrame, NoRoom, NotInitial, NoStep, Holding}
 use Rattle.decks.specs.declared.Reply.{Reply}
-use Rattle.decks.specs.Answers.{Outcome, Got, Refused, afterwards, reply_of}
-use Rattle.decks.specs.Readings.{walk, complete}
-use Rattle.cards.specs.Card.{cards_of, is_blank, Kind, Comment, Empty, Opening, Continuing, kind_of, Open, Shut, Continued, opened, card_in_form, in_form}
-use Rattle.cards.specs.Statement.{Statement, inked, Hand, Nothing, Held, laid, folded, gathered, statements_of}
-use Rattle.cards.specs.Places.{place_at, places_from, places_of, place_left}
+use Rattle.decks.specs.Answers.{Outcome, Got, Refused, refuse, afterwards, reply_of}
+use Rattle.decks.specs.Readings.{Whole, Wrong, Deep, walk, complete}
+use Rattle.cards.specs.Card.{cards_of, Kind, Comment, Empty, Opening, Continuing, kind_of, Open, Shut, Continued, opened, card_in_form, in_form}
+use Rattle.cards.specs.Statement.{Statement, Hand, Nothing, Held, laid, folded, gathered, statements_of}
+use Rattle.cards.specs.Grammar.{Number, NoNumber, read_number, read_expr}
 use Rattle.cards.specs.Typed.{Typed}
 use Rattle.cards.specs.Columns.{remark, Formed}
 use Rattle.cards.specs.Comments.{uncommented, numbers_from, number_of, CommentsFormed, SameButComments, SamePlace}
-use Rattle.cards.specs.Read.{behind, Due, DueVars, DueInit, DueAny, DueEquation, DueEnd, DueNone, Sofar, begun, due_statement, statement_read, cards_end, read_cards}
-use Rattle.decks.proofs.Outcomes.{refused_got, answer_of, answered, refuse_answered, afterwards_answered, walk_got, walk_once}
-use Rattle.cards.proofs.AnswerLaws.{Renames, due_renamed}
+use Rattle.cards.specs.Read.{behind, Due, DueVars, DueInit, DueAny, DueEquation, DueEnd, DueNone, Sofar, begun, whole_expr, whole_number, vars_statement, read_binary, init_statement, with_equation, equation_statement, prop_statement, end_statement, equation_or_prop, due_statement, statement_read, cards_end, read_cards}
+use Rattle.decks.proofs.Outcomes.{refused_got, answer_of, walk_got, walk_once}
 use Rattle.cards.proofs.StatementLaws.{sofar}
 use Rattle.cards.proofs.FormLaws.{cards_formed}
 use Rattle.cards.proofs.NothingDropped.{nothing_dropped}
@@ -33,11 +35,7 @@ use Rattle.cards.proofs.CardsExactlyWhen.{formed-passes}
 
 -- ---- answers with their places moved
 
--- The place of a column, on the card that φ moves its card to.
-abbrev pub place_moved : (ℕ → ℕ) → ℕ → ℕ
-place_moved φ p = 100 * φ (p / 100) + p % 100
-
--- The answer with its place moved by φ; that of 24 keeps its column. The place of 15 is a variable and stays, as does a place that is always 0.
+-- The answer with its place moved by φ. The place of 15 is a variable and stays, as does a place that is always 0.
 abbrev pub moved : (ℕ → ℕ) → Answer → Answer
 moved φ Fine = Fine
 moved φ (TooLong t) = TooLong t
@@ -47,6 +45,7 @@ moved φ (BadStart p) = BadStart (φ p)
 moved φ (BadNumber p) = BadNumber (φ p)
 moved φ (NoneOpen p) = NoneOpen (φ p)
 moved φ (TooManyCards p) = TooManyCards (φ p)
+moved φ (NotDue p) = NotDue (φ p)
 moved φ (Outside t p) = Outside t (φ p)
 moved φ (Temporal p) = Temporal (φ p)
 moved φ (TooDeep p) = TooDeep (φ p)
@@ -59,34 +58,28 @@ moved φ (NoRoom p) = NoRoom (φ p)
 moved φ NotInitial = NotInitial
 moved φ (NoStep p) = NoStep (φ p)
 moved φ Holding = Holding
-moved φ (NotDue p) = NotDue (φ p)
-moved φ (BadExpression p) = BadExpression (place_moved φ p)
-moved φ (BadInitial p) = BadInitial (φ p)
-moved φ NoStatement = NoStatement
 
 abbrev pub renumbered : {A : Type 0} → (ℕ → ℕ) → Outcome A → Outcome A
-renumbered φ r = answered (moved φ) r
+renumbered φ (Got x) = Got x
+renumbered φ (Refused a) = Refused (moved φ a)
 
 renumbered_got : {A : Type 0} (φ : ℕ → ℕ) (r : Outcome A) (x : A) → renumbered φ r ≡ Got x → r ≡ Got x
 renumbered_got φ (Got y) x e = e
 renumbered_got φ (Refused a) x e = refused_got e
 
--- ---- places of columns
-
-at_moved : (f : ℕ → ℕ) → f 0 ≡ 0 → (ns : List ℕ) (i : ℕ) → get_or (map f ns) i 0 ≡ f (get_or ns i 0)
-at_moved f z ns i = ap (get_or (map f ns) i) (sym z) ∙ get_or-map f ns i 0
-
--- The column after a character is on the same card.
-columns-within : (cards : List ℕ) (i : ℕ) (cs : List ℕ) → Each (λ (p : ℕ). p % 100 < 99) (places_from cards i cs)
-unfolding places_from
-columns-within cards i [] = tt
-columns-within cards i (c ∷ cs) = go (is_blank c) (columns-within cards (suc i) cs)
-  where
-    go : (t : Bool) → Each (λ (p : ℕ). p % 100 < 99) (places_from cards (suc i) cs) → Each (λ (p : ℕ). p % 100 < 99) (elim t [ true ↦ places_from cards (suc i) cs | false ↦ place_at cards i ∷ places_from cards (suc i) cs ])
-    go true ps = ps
-    go false ps = (omega arith, ps)
-
 module _ (φ : ℕ → ℕ) where
+  refuse-moved : {A : Type 0} (t : Bool) (a : Answer) (r : Outcome A) → renumbered φ (refuse t a r) ≡ refuse t (moved φ a) (renumbered φ r)
+  refuse-moved true a r = refl
+  refuse-moved false a r = refl
+
+  afterwards-moved : {A B : Type 0} (r : Outcome A) (f : A → Outcome B) → renumbered φ (afterwards r f) ≡ afterwards (renumbered φ r) (λ x. renumbered φ (f x))
+  afterwards-moved (Got x) f = refl
+  afterwards-moved (Refused a) f = refl
+
+  option-moved : {A : Type 0} (o : Option A) (f g : A → Outcome Sofar) (r s : Outcome Sofar) → ((x : A) → renumbered φ (f x) ≡ g x) → renumbered φ r ≡ s → renumbered {A = Sofar} φ (elim o [ some x ↦ f x | none ↦ r ]) ≡ elim o [ some x ↦ g x | none ↦ s ]
+  option-moved (some x) f g r s e h = e x
+  option-moved none f g r s e h = h
+
   -- ---- one card
 
   opened_moved : (n : ℕ) (k : Kind) (o : Open) → renumbered φ (opened n k o) ≡ opened (φ n) k o
@@ -95,37 +88,64 @@ module _ (φ : ℕ → ℕ) where
   opened_moved n Empty o = refl
   opened_moved n Opening o = refl
   opened_moved n Continuing Shut = refl
-  opened_moved n Continuing (Continued k) = simp refuse_answered
+  opened_moved n Continuing (Continued k) = simp refuse-moved
 
   card_moved : (n : ℕ) (card : List ℕ) (o : Open) → renumbered φ (card_in_form n card o) ≡ card_in_form (φ n) card o
   unfolding card_in_form
-  card_moved n card o = simp (refuse_answered, opened_moved)
+  card_moved n card o = simp (refuse-moved, opened_moved)
 
   -- ---- one statement
 
-  moved_renames : Renames (moved φ) φ (place_moved φ)
-  moved_renames =
-      record {
-        outside = λ n. refl;
-        temporal = λ n. refl;
-        deep = λ n. refl;
-        initials = λ n. refl;
-        equations = λ n. refl;
-        nodes = λ n. refl;
-        not_due = λ n. refl;
-        expression = λ p. refl;
-        initial = λ n. refl;
-      }
+  -- What f comes to for card n, moved, is what it comes to for card φ n.
+  abbrev Moves : {A : Type 0} → ℕ → (ℕ → Outcome A) → Type 0
+  Moves n f = renumbered φ (f n) ≡ f (φ n)
+
+  expr-moved : (n : ℕ) (cs : List ℕ) → renumbered φ (whole_expr n cs) ≡ whole_expr (φ n) cs
+  unfolding whole_expr
+  expr-moved n cs =
+      elim (read_expr base.levels cs) as (λ r. Moves {A = Expr} n (λ k. elim r [ Whole e [] ↦ Got e | Whole e (r ∷ rs) ↦ Refused (NotDue k) | Wrong rs ↦ Refused (NotDue k) | Deep rs ↦ Refused (TooDeep k) ])) [ Whole e [] ↦ refl | Whole e (r ∷ rs) ↦ refl | Wrong rs ↦ refl | Deep rs ↦ refl ]
+
+  number-moved : (n most : ℕ) (cs : List ℕ) → renumbered φ (whole_number n most cs) ≡ whole_number (φ n) most cs
+  unfolding whole_number
+  number-moved n most cs =
+      elim (read_number cs) as (λ r. Moves {A = ℕ} n (λ k. elim r [ Number v [] ↦ refuse (ltb most v) (NotDue k) (Got v) | Number v (r ∷ rs) ↦ Refused (NotDue k) | NoNumber rs ↦ Refused (NotDue k) ])) [ Number v [] ↦ simp refuse-moved | Number v (r ∷ rs) ↦ refl | NoNumber rs ↦ refl ]
+
+  init-moved : (n : ℕ) (cs : List ℕ) (t : Typed) → renumbered φ (init_statement n cs t) ≡ init_statement (φ n) cs t
+  unfolding init_statement
+  init-moved n cs t = option-moved (read_binary 0 t.count 0 cs) _ _ _ _ (λ s. simp refuse-moved) refl
+
+  equation-moved : (n : ℕ) (cs : List ℕ) (t : Typed) → renumbered φ (equation_statement n cs t) ≡ equation_statement (φ n) cs t
+  unfolding equation_statement with_equation
+  equation-moved n cs t =
+      elim (read_number cs) as (λ r. Moves {A = Sofar} n (λ k. elim r [ NoNumber rs ↦ Refused (NotDue k) | Number v rs ↦ elim (behind (bytes "=") rs) [ none ↦ Refused (NotDue k) | some es ↦ afterwards (whole_expr k es) (λ e. with_equation k t (record { left = v; right = e })) ] ])) [
+        | NoNumber rs ↦ refl
+        | Number v rs ↦ option-moved (behind (bytes "=") rs) _ _ _ _ (λ es. simp (afterwards-moved, expr-moved, refuse-moved)) refl
+      ]
+
+  either-moved : (n : ℕ) (cs : List ℕ) (t : Typed) → renumbered φ (equation_or_prop n cs t) ≡ equation_or_prop (φ n) cs t
+  unfolding equation_or_prop prop_statement
+  either-moved n cs t =
+      option-moved (behind (bytes "V") cs) _ _ _ _ (λ rs. equation-moved n rs t)
+      (option-moved (behind (bytes "PROP") cs) _ _ _ _ (λ rs. simp (afterwards-moved, expr-moved, refuse-moved)) refl)
+
+  due-moved : (u : Due) (n : ℕ) (cs : List ℕ) (t : Typed) → renumbered φ (due_statement u n cs t) ≡ due_statement u (φ n) cs t
+  unfolding due_statement vars_statement end_statement
+  due-moved DueVars n cs t = option-moved (behind (bytes "VARS") cs) _ _ _ _ (λ rs. simp (afterwards-moved, number-moved)) refl
+  due-moved DueInit n cs t = option-moved (behind (bytes "INIT") cs) _ _ _ _ (λ rs. init-moved n rs t) refl
+  due-moved DueAny n cs t = option-moved (behind (bytes "INIT") cs) _ _ _ _ (λ rs. init-moved n rs t) (either-moved n cs t)
+  due-moved DueEquation n cs t = either-moved n cs t
+  due-moved DueEnd n cs t = option-moved (behind (bytes "END") cs) _ _ _ _ (λ rs. elim rs as (λ l. Moves n (λ k. end_statement k l t)) [ [] ↦ refl | c ∷ more ↦ refl ]) refl
+  due-moved DueNone n cs t = refl
 
   -- Behind the last statement no card is named.
-  missing_moved : (u : Due) (t : Typed) → renumbered φ (cards_end (sofar u t)) ≡ cards_end (sofar u t)
+  missing_moved : φ 0 ≡ 0 → (u : Due) (t : Typed) → renumbered φ (cards_end (sofar u t)) ≡ cards_end (sofar u t)
   unfolding cards_end complete
-  missing_moved DueVars t = refl
-  missing_moved DueInit t = refl
-  missing_moved DueAny t = refl
-  missing_moved DueEquation t = refl
-  missing_moved DueEnd t = refl
-  missing_moved DueNone t = simp refuse_answered
+  missing_moved z DueVars t = rw z
+  missing_moved z DueInit t = rw z
+  missing_moved z DueAny t = rw z
+  missing_moved z DueEquation t = rw z
+  missing_moved z DueEnd t = rw z
+  missing_moved z DueNone t = simp refuse-moved
 
   -- ---- the statements of the cards
 
@@ -145,49 +165,10 @@ module _ (φ : ℕ → ℕ) where
   folded_moved n card Nothing = refl
   folded_moved n card (Held s) = rw (map-append φ s.further (n ∷ []))
 
-  -- ---- the places of a statement's characters
-
-  column_stays : (n c : ℕ) → c < 100 → place_moved φ (100 * n + c) ≡ 100 * φ n + c
-  column_stays n c h =
-      let card : (100 * n + c) / 100 ≡ n = omega arith in
-      let column : (100 * n + c) % 100 ≡ c = omega arith in
-      simp (card, column)
-
-  -- 0 is the number of no card, and stays.
-  module _ (none_stays : φ 0 ≡ 0) where
-    place_moved_lem : (cards : List ℕ) (i : ℕ) → place_at (map φ cards) i ≡ place_moved φ (place_at cards i)
-    place_moved_lem cards i = rw (at_moved φ none_stays cards) (sym (column_stays _ _ (omega arith)))
-
-    places_moved : (cards : List ℕ) (i : ℕ) (cs : List ℕ) → places_from (map φ cards) i cs ≡ map (place_moved φ) (places_from cards i cs)
-    unfolding places_from
-    places_moved cards i [] = refl
-    places_moved cards i (c ∷ cs) = go (is_blank c) (places_moved cards (suc i) cs)
-      where
-        go : (t : Bool)
-            → places_from (map φ cards) (suc i) cs ≡ map (place_moved φ) (places_from cards (suc i) cs)
-            → elim t [ true ↦ places_from (map φ cards) (suc i) cs | false ↦ place_at (map φ cards) i ∷ places_from (map φ cards) (suc i) cs ] ≡ map (place_moved φ) (elim t [ true ↦ places_from cards (suc i) cs | false ↦ place_at cards i ∷ places_from cards (suc i) cs ])
-        go true e = e
-        go false e = ap₂ (λ (p : ℕ) (ps : List ℕ). p ∷ ps) (place_moved_lem cards i) e
-
-    left_moved : (ps : List ℕ) (k : ℕ) → Each (λ (p : ℕ). p % 100 < 99) ps → place_left (map (place_moved φ) ps) k ≡ place_moved φ (place_left ps k)
-    unfolding place_left
-    left_moved ps zero h = simp (length-map, at_moved (place_moved φ) (omega arith)) (next (get_or ps (length ps - 1) 0) (each_default (λ (p : ℕ). p % 100 < 99) ps (length ps - 1) 0 h (omega arith)))
-      where
-        next : (p : ℕ) → p % 100 < 99 → place_moved φ p + 1 ≡ place_moved φ (p + 1)
-        next p l = let card : (p + 1) / 100 ≡ p / 100 = omega arith in rw card (omega arith)
-    left_moved ps (suc k) h = simp (length-map, at_moved (place_moved φ) (omega arith))
-
-    statement_moved : (i : ℕ) (s : Statement) (so : Sofar) → renumbered φ (statement_read i s so) ≡ statement_read i (elsewhere s) so
-    unfolding statement_read
-    statement_moved i s so =
-        due_renamed (moved φ) φ (place_moved φ) moved_renames so.due s.card (place_left (places_of s)) (inked s.field) so.typed
-        ∙ ap (λ (place : ℕ → ℕ). due_statement so.due (φ s.card) place (inked s.field) so.typed) (fun_ext (λ k.
-        sym (ap (λ (ps : List ℕ). place_left ps k) (places_moved (s.card ∷ s.further) 0 s.field) ∙ left_moved (places_of s) k (columns-within (s.card ∷ s.further) 0 s.field))))
-
-    statements_moved : (ss : List Statement) (i : ℕ) (so : Sofar) → renumbered φ (walk statement_read i ss so) ≡ walk statement_read i (map elsewhere ss) so
-    unfolding walk
-    statements_moved [] i so = refl
-    statements_moved (s ∷ ss) i so = simp (walk_once, afterwards_answered, statement_moved, statements_moved ss)
+  statements_moved : (ss : List Statement) (i : ℕ) (so : Sofar) → renumbered φ (walk statement_read i ss so) ≡ walk statement_read i (map elsewhere ss) so
+  unfolding walk statement_read
+  statements_moved [] i so = refl
+  statements_moved (s ∷ ss) i so = simp (walk_once, afterwards-moved, due-moved, statements_moved ss)
 
   -- ---- the cards without their comments
 
@@ -206,7 +187,7 @@ module _ (φ : ℕ → ℕ) where
 
   card_alike : (m : ℕ) (c : List ℕ) (cs ds : List (List ℕ)) → Alike (suc m) (suc (φ m)) cs ds → Alike m (φ m) (c ∷ cs) (c ∷ ds)
   unfolding gathered
-  card_alike m c cs ds (walks, gathers) = (λ o. simp (walk_once, afterwards_answered, card_moved, walks), λ h. go h (kind_of c) refl)
+  card_alike m c cs ds (walks, gathers) = (λ o. simp (walk_once, afterwards-moved, card_moved, walks), λ h. go h (kind_of c) refl)
     where
       go : (h : Hand) (k : Kind) → kind_of c ≡ k → map elsewhere (gathered m (c ∷ ds) h) ≡ gathered (φ m) (c ∷ cs) (handed h)
       go h Comment e = simp (e, gathered) (gathers h)
@@ -240,8 +221,8 @@ comments_moved : (cards : List (List ℕ)) → CommentsFormed cards → renumber
 comments_moved cards f =
     let φ = number_of cards in
     let (walks, gathers) = all_alike φ cards 1 1 f (λ i. let one : 1 + i ≡ suc i = omega arith in ap φ one) in
-    let ends : (so : Sofar) → renumbered φ (cards_end so) ≡ cards_end so = λ so. missing_moved φ so.due so.typed in
-    simp (afterwards_answered, walks, statements_moved φ refl, gathers Nothing, ends)
+    let ends : (so : Sofar) → renumbered φ (cards_end so) ≡ cards_end so = λ so. missing_moved φ refl so.due so.typed in
+    simp (afterwards-moved, walks, statements_moved, gathers Nothing, ends)
 
 read_moved : (text : List ℕ) → length text ≤ base.text → CommentsFormed (cards_of text) → read_cards text ≡ renumbered (number_of (cards_of text)) (read_from (uncommented (cards_of text)))
 unfolding read_cards
@@ -281,34 +262,31 @@ abbrev pub SameReply : List ℕ → List ℕ → Reply → Reply → Type 0
 SameReply one other r s = (r.number ≡ s.number) × (r.text ≡ s.text) × SamePlace one other r.number r.place s.place
 
 module _ (one other : List ℕ) where
-  at_card : (number k : ℕ) → eqb number 15 ≡ false → eqb number 24 ≡ false → SamePlace one other number (number_of (cards_of one) k) (number_of (cards_of other) k)
-  at_card number k e f = inr (inr (eqb-false number 15 e, eqb-false number 24 f, (k, refl, refl)))
+  at_card : (number k : ℕ) → eqb number 15 ≡ false → SamePlace one other number (number_of (cards_of one) k) (number_of (cards_of other) k)
+  at_card number k e = inr (eqb-false number 15 e, (k, refl, refl))
 
   moved_alike : (a : Answer) → SameReply one other (reply_of (moved (number_of (cards_of one)) a)) (reply_of (moved (number_of (cards_of other)) a))
-  moved_alike Fine = (refl, refl, at_card 0 0 refl refl)
-  moved_alike (TooLong t) = (refl, refl, at_card 1 0 refl refl)
-  moved_alike (BadByte p) = (refl, refl, at_card 2 p refl refl)
-  moved_alike (TooWide p) = (refl, refl, at_card 3 p refl refl)
-  moved_alike (BadStart p) = (refl, refl, at_card 4 p refl refl)
-  moved_alike (BadNumber p) = (refl, refl, at_card 5 p refl refl)
-  moved_alike (NoneOpen p) = (refl, refl, at_card 6 p refl refl)
-  moved_alike (TooManyCards p) = (refl, refl, at_card 7 p refl refl)
-  moved_alike (Outside t p) = (refl, refl, at_card 9 p refl refl)
-  moved_alike (Temporal p) = (refl, refl, at_card 10 p refl refl)
-  moved_alike (TooDeep p) = (refl, refl, at_card 11 p refl refl)
-  moved_alike (ManyInitials p) = (refl, refl, at_card 12 p refl refl)
-  moved_alike (ManyEquations p) = (refl, refl, at_card 13 p refl refl)
-  moved_alike (ManyNodes p) = (refl, refl, at_card 14 p refl refl)
+  moved_alike Fine = (refl, refl, at_card 0 0 refl)
+  moved_alike (TooLong t) = (refl, refl, at_card 1 0 refl)
+  moved_alike (BadByte p) = (refl, refl, at_card 2 p refl)
+  moved_alike (TooWide p) = (refl, refl, at_card 3 p refl)
+  moved_alike (BadStart p) = (refl, refl, at_card 4 p refl)
+  moved_alike (BadNumber p) = (refl, refl, at_card 5 p refl)
+  moved_alike (NoneOpen p) = (refl, refl, at_card 6 p refl)
+  moved_alike (TooManyCards p) = (refl, refl, at_card 7 p refl)
+  moved_alike (NotDue p) = (refl, refl, at_card 8 p refl)
+  moved_alike (Outside t p) = (refl, refl, at_card 9 p refl)
+  moved_alike (Temporal p) = (refl, refl, at_card 10 p refl)
+  moved_alike (TooDeep p) = (refl, refl, at_card 11 p refl)
+  moved_alike (ManyInitials p) = (refl, refl, at_card 12 p refl)
+  moved_alike (ManyEquations p) = (refl, refl, at_card 13 p refl)
+  moved_alike (ManyNodes p) = (refl, refl, at_card 14 p refl)
   moved_alike (NoEquation v) = (refl, refl, inl (refl, refl))
-  moved_alike (BadFrame t p) = (refl, refl, at_card 16 p refl refl)
-  moved_alike (NoRoom p) = (refl, refl, at_card 17 p refl refl)
-  moved_alike NotInitial = (refl, refl, at_card 20 0 refl refl)
-  moved_alike (NoStep p) = (refl, refl, at_card 21 p refl refl)
-  moved_alike Holding = (refl, refl, at_card 22 0 refl refl)
-  moved_alike (NotDue p) = (refl, refl, at_card 23 p refl refl)
-  moved_alike (BadExpression p) = (refl, refl, inr (inl (refl, (p / 100, p % 100, mod-lt p (omega arith), refl, refl))))
-  moved_alike (BadInitial p) = (refl, refl, at_card 25 p refl refl)
-  moved_alike NoStatement = (refl, refl, at_card 26 0 refl refl)
+  moved_alike (BadFrame t p) = (refl, refl, at_card 16 p refl)
+  moved_alike (NoRoom p) = (refl, refl, at_card 17 p refl)
+  moved_alike NotInitial = (refl, refl, at_card 20 0 refl)
+  moved_alike (NoStep p) = (refl, refl, at_card 21 p refl)
+  moved_alike Holding = (refl, refl, at_card 22 0 refl)
 
 -- The replies to two texts of the same cards but for comments say the same.
 pub comment_same_reply : (one other : List ℕ)

@@ -8,11 +8,10 @@ use Prim.Native.Nat.{ℕ, zero, suc, ◌≤◌}
 use Prim.Native.Char.{code as character}
 use native.Mathlib.Omega.{arith}
 use lib.Dec.{eqb}
-use lib.ListN.{length}
 use Rattle.lists.specs.Lists.{◌among◌}
 use Rattle.logic.specs.Expressions.{Expr, One, Two, Op1, Op2, Not, Next, Future, Always, levels, const_sign, sign1, sign2, spelling, Below}
 use Rattle.logic.specs.Decks.{base}
-use Rattle.decks.specs.declared.Answer.TheVariants.{TooDeep, BadExpression}
+use Rattle.decks.specs.declared.Answer.TheVariants.{NotDue, TooDeep}
 use Rattle.decks.specs.Answers.{Outcome, Got, Refused}
 use Rattle.decks.specs.Readings.{Reading, Whole, Wrong, Deep, onward}
 use Rattle.cards.specs.Grammar.{Counted, Number, NoNumber, read_number, Sign, Constant, Variable, Before, Bracket, NoSign, sign_of, joint_of, past, past_joint, variable, levelled, begins, read_expr}
@@ -143,43 +142,37 @@ opens-deep (suc k) front rest (inr (inr (a, o, more, e, l, n, p))) b =
 -- ---- the expression that fills the rest of a statement
 
 -- It is taken exactly where the rest is its spelling.
-pub whole_expr_exactly : (n : ℕ) (place : ℕ → ℕ) (cs : List ℕ) (e : Expr) → (whole_expr n place cs ≡ Got e) ↔ Spells cs e
-whole_expr_exactly n place cs e = (whole_expr_got n place cs e, λ (p, l, b). ap (whole_expr n place) p ∙ whole_expr_spelt n place e l b)
+pub whole_expr_exactly : (n : ℕ) (cs : List ℕ) (e : Expr) → (whole_expr n cs ≡ Got e) ↔ Spells cs e
+whole_expr_exactly n cs e = (whole_expr_got n cs e, λ (p, l, b). ap (whole_expr n) p ∙ whole_expr_spelt n e l b)
 
-too_far_deep : (n : ℕ) (place : ℕ → ℕ) (cs : List ℕ) → TooFar cs → whole_expr n place cs ≡ Refused (TooDeep n)
+too_far_deep : (n : ℕ) (cs : List ℕ) → TooFar cs → whole_expr n cs ≡ Refused (TooDeep n)
 unfolding whole_expr
-too_far_deep n place cs (front, rest, e, p, b) = let d : read_expr base.levels cs ≡ Deep rest = ap (read_expr base.levels) e ∙ opens-deep base.levels front rest p b in simp (d, whole_expr)
+too_far_deep n cs (front, rest, e, p, b) = let d : read_expr base.levels cs ≡ Deep rest = ap (read_expr base.levels) e ∙ opens-deep base.levels front rest p b in simp (d, whole_expr)
 
 -- Which of the three it comes to.
-abbrev Comes : ℕ → (ℕ → ℕ) → List ℕ → Outcome Expr → Type 0
-Comes n place cs r = (((e : Expr) × (r ≡ Got e)) ⊎ ((r ≡ Refused (TooDeep n)) × TooFar cs)) ⊎ ((k : ℕ) × (r ≡ Refused (BadExpression (place k))))
+abbrev Comes : ℕ → List ℕ → Outcome Expr → Type 0
+Comes n cs r = (((e : Expr) × (r ≡ Got e)) ⊎ ((r ≡ Refused (TooDeep n)) × TooFar cs)) ⊎ (r ≡ Refused (NotDue n))
 
-whole_expr_comes : (n : ℕ) (place : ℕ → ℕ) (cs : List ℕ) → Comes n place cs (whole_expr n place cs)
+whole_expr_comes : (n : ℕ) (cs : List ℕ) → Comes n cs (whole_expr n cs)
 unfolding whole_expr
-whole_expr_comes n place cs = go (read_expr base.levels cs) (read_stops base.levels cs)
+whole_expr_comes n cs = go (read_expr base.levels cs) (read_stops base.levels cs)
   where
-    go : (r : Reading) → Stops base.levels cs r → Comes n place cs (elim r [
-      | Whole e [] ↦ Got e
-      | Whole e (r ∷ rs) ↦ Refused (BadExpression (place (length (r ∷ rs))))
-      | Wrong rs ↦ Refused (BadExpression (place (length rs)))
-      | Deep rs ↦ Refused (TooDeep n)
-    ])
+    go : (r : Reading) → Stops base.levels cs r → Comes n cs (elim r [ Whole e [] ↦ Got e | Whole e (r ∷ rs) ↦ Refused (NotDue n) | Wrong rs ↦ Refused (NotDue n) | Deep rs ↦ Refused (TooDeep n) ])
     go (Whole e []) s = inl (inl (e, refl))
-    go (Whole e (r ∷ rs)) s = inr (length (r ∷ rs), refl)
-    go (Wrong rs) s = inr (length rs, refl)
+    go (Whole e (r ∷ rs)) s = inr refl
+    go (Wrong rs) s = inr refl
     go (Deep rs) (front, f, p, b) = inl (inr (refl, (front, rs, f, p, b)))
 
-deep_not_bad : {P : Type 0} {n p : ℕ} → ◌≡◌ {A = Outcome Expr} (Refused (TooDeep n)) (Refused (BadExpression p)) → P
-deep_not_bad e = let z : ◌≡◌ {A = ℕ} 0 1 = cc in absurd (omega arith)
+deep-not-due : {P : Type 0} {n m : ℕ} → ◌≡◌ {A = Outcome Expr} (Refused (TooDeep n)) (Refused (NotDue m)) → P
+deep-not-due e = let z : ◌≡◌ {A = ℕ} 0 1 = cc in absurd (omega arith)
 
-module _ (n : ℕ) (place : ℕ → ℕ) (cs : List ℕ) where
-  -- 11 is given exactly where an expression begins at level 33, with all to the left of it in order, whatever follows.
-  pub too_deep_exactly : (whole_expr n place cs ≡ Refused (TooDeep n)) ↔ TooFar cs
-  too_deep_exactly = (λ h. ⊎_elim (⊎_elim (λ (e, g). refused_got (sym h ∙ g)) (λ (d, f). f)) (λ (k, w). deep_not_bad (sym h ∙ w)) (whole_expr_comes n place cs), too_far_deep n place cs)
+-- 11 is given exactly where an expression begins at level 33, with all to the left of it in order, whatever follows.
+pub too_deep_exactly : (n : ℕ) (cs : List ℕ) → (whole_expr n cs ≡ Refused (TooDeep n)) ↔ TooFar cs
+too_deep_exactly n cs = (λ h. ⊎_elim (⊎_elim (λ (e, g). refused_got (sym h ∙ g)) (λ (d, f). f)) (λ w. deep-not-due (sym h ∙ w)) (whole_expr_comes n cs), too_far_deep n cs)
 
-  -- 24 is given exactly where it is neither an expression's spelling nor too deep.
-  pub wrong_exactly : ((k : ℕ) × (whole_expr n place cs ≡ Refused (BadExpression (place k)))) ↔ (((e : Expr) → Spells cs e → ⊥) × (TooFar cs → ⊥))
-  wrong_exactly = (
-    λ (k, h). (λ e s. refused_got (sym h ∙ (whole_expr_exactly n place cs e).1 s), λ f. deep_not_bad (sym (too_far_deep n place cs f) ∙ h)),
-    λ (ns, nf). ⊎_elim (⊎_elim (λ (e, g). absurd (ns e ((whole_expr_exactly n place cs e).0 g))) (λ (d, f). absurd (nf f))) (λ w. w) (whole_expr_comes n place cs),
-  )
+-- 8 is given exactly where it is neither an expression's spelling nor too deep.
+pub wrong_exactly : (n : ℕ) (cs : List ℕ) → (whole_expr n cs ≡ Refused (NotDue n)) ↔ (((e : Expr) → Spells cs e → ⊥) × (TooFar cs → ⊥))
+wrong_exactly n cs = (
+  λ h. (λ e s. refused_got (sym h ∙ (whole_expr_exactly n cs e).1 s), λ f. deep-not-due (sym (too_far_deep n cs f) ∙ h)),
+  λ (ns, nf). ⊎_elim (⊎_elim (λ (e, g). absurd (ns e ((whole_expr_exactly n cs e).0 g))) (λ (d, f). absurd (nf f))) (λ w. w) (whole_expr_comes n cs),
+)

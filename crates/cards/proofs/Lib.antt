@@ -6,9 +6,6 @@ pub mod ColumnLaws
 pub mod Cases
 pub mod FormLaws
 pub mod NothingDropped
-pub mod FirstFault
 pub mod ExactlyWhen
 pub mod CardsExactlyWhen
-pub mod AnswerLaws
 pub mod CommentMeansNothing
-pub mod PlaceTold

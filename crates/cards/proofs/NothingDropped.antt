@@ -9,7 +9,7 @@ use lib.Dec.{ltb}
 use lib.ListN.{length}
 use Rattle.lists.specs.Lists.{Each, Some, keep}
 use Rattle.logic.specs.Decks.{Equation, Deck, Accepted, base}
-use Rattle.decks.specs.declared.Answer.TheVariants.{NoStatement}
+use Rattle.decks.specs.declared.Answer.TheVariants.{NotDue}
 use Rattle.decks.specs.Answers.{Got, Refused}
 use Rattle.decks.specs.Readings.{walk, complete}
 use Rattle.cards.specs.Card.{cards_of, Open, Shut, in_form}
@@ -58,11 +58,11 @@ end_says text o so short form e = go so.due refl
         (short, (o, form), (so.typed, w.0, stated-fits so.typed w.1 (all_have_typed so.typed c.1), sym c.0))
 
     go : (u : Due) → so.due ≡ u → Given (Says text) (elim u [
-      | DueVars ↦ Refused NoStatement
-      | DueInit ↦ Refused NoStatement
-      | DueAny ↦ Refused NoStatement
-      | DueEquation ↦ Refused NoStatement
-      | DueEnd ↦ Refused NoStatement
+      | DueVars ↦ Refused (NotDue 0)
+      | DueInit ↦ Refused (NotDue 0)
+      | DueAny ↦ Refused (NotDue 0)
+      | DueEquation ↦ Refused (NotDue 0)
+      | DueEnd ↦ Refused (NotDue 0)
       | DueNone ↦ complete (deck_of so.typed)
     ])
     go DueVars p = tt

@@ -18,11 +18,10 @@ use Rattle.logic.specs.Expressions.{Expr, Const, nodes, levels, written, tempora
 use Rattle.logic.specs.Decks.{Equation, Allowed, base, total_nodes}
 use Rattle.logic.proofs.Codes.{below_more, written_below}
 use Rattle.logic.proofs.Spelling.{NoDigit}
-use Rattle.decks.specs.declared.Answer.TheVariants.{ManyInitials, NotDue, BadInitial}
+use Rattle.decks.specs.declared.Answer.TheVariants.{NotDue, ManyInitials}
 use Rattle.decks.specs.Answers.{Outcome, Got, Refused, refuse, afterwards}
 use Rattle.decks.specs.Readings.{walk}
 use Rattle.cards.specs.Statement.{Statement, inked}
-use Rattle.cards.specs.Places.{places_of, place_left}
 use Rattle.cards.specs.Grammar.{Counted, Number, NoNumber, read_number}
 use Rattle.cards.specs.Typed.{Typed, binary_from, init_spelt, equation_spelt, spelt, first_vars, Fits}
 use Rattle.cards.specs.Read.{behind, Due, DueVars, DueInit, DueAny, DueEquation, DueEnd, DueNone, Sofar, begun, whole_expr, whole_number, vars_statement, read_binary, init_statement, with_equation, equation_statement, prop_statement, end_statement, equation_or_prop, due_statement, statement_read}
@@ -121,7 +120,7 @@ unfolding init_statement
 init_kept past n l cs t e h b z = go (read_binary 0 t.count 0 cs) refl
   where
     go : (r : Option ℕ) → read_binary 0 t.count 0 cs ≡ r → Given (Kept (past ++ l ∷ [])) (elim r [
-      | none ↦ Refused (BadInitial n)
+      | none ↦ Refused (NotDue n)
       | some s ↦
           refuse (ltb base.initials (length t.inits + 1)) (ManyInitials n)
           (Got (sofar DueAny (record { count = t.count; inits = t.inits ++ (s ∷ []); equations = t.equations; property = t.property })))
@@ -185,18 +184,18 @@ with_equation_kept past n l t q e h b i shallow =
       ),
     ))))))
 
-equation_kept : (past : List (List ℕ)) (n : ℕ) (place : ℕ → ℕ) (l cs : List ℕ) (t : Typed) → l ≡ bytes "V" ++ cs → past ≡ head_spelt t → Begun t → 1 ≤ length t.inits → Given (Kept (past ++ l ∷ [])) (equation_statement n place cs t)
+equation_kept : (past : List (List ℕ)) (n : ℕ) (l cs : List ℕ) (t : Typed) → l ≡ bytes "V" ++ cs → past ≡ head_spelt t → Begun t → 1 ≤ length t.inits → Given (Kept (past ++ l ∷ [])) (equation_statement n cs t)
 unfolding equation_statement
-equation_kept past n place l cs t e h b i = number (read_number cs) refl
+equation_kept past n l cs t e h b i = number (read_number cs) refl
   where
     joined : (v : ℕ) (rs : List ℕ) → cs ≡ decimal v ++ rs → (r : Option (List ℕ)) → behind (bytes "=") rs ≡ r → Given (Kept (past ++ l ∷ [])) (elim r [
       | none ↦ Refused (NotDue n)
-      | some es ↦ afterwards (whole_expr n place es) (λ x. with_equation n t (record { left = v; right = x }))
+      | some es ↦ afterwards (whole_expr n es) (λ x. with_equation n t (record { left = v; right = x }))
     ])
     joined v rs p none q = tt
     joined v rs p (some es) q =
-        afterwards_given (Kept (past ++ l ∷ [])) (whole_expr n place es) _ (λ x w.
-        let whole = whole_expr_got n place es x w in
+        afterwards_given (Kept (past ++ l ∷ [])) (whole_expr n es) _ (λ x w.
+        let whole = whole_expr_got n es x w in
         with_equation_kept
         past
         n
@@ -214,20 +213,20 @@ equation_kept past n place l cs t e h b i = number (read_number cs) refl
       | Number v rs ↦
           elim (behind (bytes "=") rs) [
             | none ↦ Refused (NotDue n)
-            | some es ↦ afterwards (whole_expr n place es) (λ x. with_equation n t (record { left = v; right = x }))
+            | some es ↦ afterwards (whole_expr n es) (λ x. with_equation n t (record { left = v; right = x }))
           ]
     ])
     number (NoNumber rs) p = tt
     number (Number v rs) p = joined v rs (read_decimal cs v rs p).0 (behind (bytes "=") rs) refl
 
-prop_kept : (past : List (List ℕ)) (n : ℕ) (place : ℕ → ℕ) (l cs : List ℕ) (t : Typed) → l ≡ bytes "PROP" ++ cs → past ≡ head_spelt t → Begun t → 1 ≤ length t.inits → Given (Kept (past ++ l ∷ [])) (prop_statement n place cs t)
+prop_kept : (past : List (List ℕ)) (n : ℕ) (l cs : List ℕ) (t : Typed) → l ≡ bytes "PROP" ++ cs → past ≡ head_spelt t → Begun t → 1 ≤ length t.inits → Given (Kept (past ++ l ∷ [])) (prop_statement n cs t)
 unfolding prop_statement
-prop_kept past n place l cs t e h b i =
+prop_kept past n l cs t e h b i =
     let K : Sofar → Type 0 = Kept (past ++ l ∷ []) in
-    afterwards_given K (whole_expr n place cs) _ (λ x w.
+    afterwards_given K (whole_expr n cs) _ (λ x w.
     refuse_not_given K (inside (written x) (first_vars t.count)) _ _ (λ within.
     refuse_given K (ltb base.property_nodes (nodes x)) _ _ (λ most.
-    let whole = whole_expr_got n place cs x w in (
+    let whole = whole_expr_got n cs x w in (
       one_more past (head_spelt t) l (prop_spelt x) h (e ∙ ap (λ (m : List ℕ). bytes "PROP" ++ m) whole.0),
       record {
         begins =
@@ -256,18 +255,18 @@ end_kept past n l [] t e h s = (
 )
 end_kept past n l (c ∷ cs) t e h s = tt
 
-module _ (past : List (List ℕ)) (n : ℕ) (place : ℕ → ℕ) (l : List ℕ) where
+module _ (past : List (List ℕ)) (n : ℕ) (l : List ℕ) where
   abbrev kept : Outcome Sofar → Type 0
   kept = Given (Kept (past ++ l ∷ []))
 
-  equation_or_prop_kept : (t : Typed) → past ≡ head_spelt t → Begun t → 1 ≤ length t.inits → kept (equation_or_prop n place l t)
+  equation_or_prop_kept : (t : Typed) → past ≡ head_spelt t → Begun t → 1 ≤ length t.inits → kept (equation_or_prop n l t)
   unfolding equation_or_prop
   equation_or_prop_kept t h b i =
-      word_given (Kept (past ++ l ∷ [])) (bytes "V") l _ _ (λ rs e. equation_kept past n place l rs t e h b i)
-      (word_given (Kept (past ++ l ∷ [])) (bytes "PROP") l _ _ (λ rs e. prop_kept past n place l rs t e h b i) tt)
+      word_given (Kept (past ++ l ∷ [])) (bytes "V") l _ _ (λ rs e. equation_kept past n l rs t e h b i)
+      (word_given (Kept (past ++ l ∷ [])) (bytes "PROP") l _ _ (λ rs e. prop_kept past n l rs t e h b i) tt)
 
   -- Every statement keeps what the statements before it kept.
-  statement_kept : (u : Due) (t : Typed) → Kept past (sofar u t) → kept (due_statement u n place l t)
+  statement_kept : (u : Due) (t : Typed) → Kept past (sofar u t) → kept (due_statement u n l t)
   unfolding due_statement
   statement_kept DueVars t k =
       word_given (Kept (past ++ l ∷ [])) (bytes "VARS") l _ _ (λ rs e. rw (k.0, k.1) (vars_kept n l rs e)) tt
@@ -281,7 +280,7 @@ module _ (past : List (List ℕ)) (n : ℕ) (place : ℕ → ℕ) (l : List ℕ)
 
 read_kept : (past : List Statement) (n : ℕ) (s : Statement) (so : Sofar) → Kept (map text_of past) so → Given (Kept (map text_of (past ++ s ∷ []))) (statement_read n s so)
 unfolding statement_read
-read_kept past n s so k = rw (map-append text_of past (s ∷ [])) (statement_kept (map text_of past) s.card (place_left (places_of s)) (text_of s) so.due so.typed k)
+read_kept past n s so k = rw (map-append text_of past (s ∷ [])) (statement_kept (map text_of past) s.card (text_of s) so.due so.typed k)
 
 -- Statements that are read to the end are the spelling of what was typed, and that keeps the limits; 15 is judged behind them.
 pub walk-spelt : (n : ℕ) (ss : List Statement) (so : Sofar) → walk statement_read n ss begun ≡ Got so → so.due ≡ DueNone → (map text_of ss ≡ spelt so.typed) × Stated so.typed
@@ -301,11 +300,11 @@ unfolding walk
 reads_none s n [] e = refl
 reads_none s n (x ∷ xs) e = absurd (nil≢cons (sym e))
 
-reads_next : (l : List ℕ) (ls : List (List ℕ)) (s t u : Sofar) → ((n : ℕ) (place : ℕ → ℕ) → due_statement s.due n place l s.typed ≡ Got t) → Reads ls t u → Reads (l ∷ ls) s u
+reads_next : (l : List ℕ) (ls : List (List ℕ)) (s t u : Sofar) → ((n : ℕ) → due_statement s.due n l s.typed ≡ Got t) → Reads ls t u → Reads (l ∷ ls) s u
 unfolding statement_read
 reads_next l ls s t u f r n [] e = absurd (nil≢cons e)
 reads_next l ls s t u f r n (x ∷ xs) e =
-    walk_got statement_read n x xs s t (ap (λ (m : List ℕ). due_statement s.due x.card (place_left (places_of x)) m s.typed) (head-eq_of_cons-eq e) ∙ f x.card (place_left (places_of x)))
+    walk_got statement_read n x xs s t (ap (λ (m : List ℕ). due_statement s.due x.card m s.typed) (head-eq_of_cons-eq e) ∙ f x.card)
     ∙ r (suc n) xs (tail-eq_of_cons-eq e)
 
 equals_no_digit : (cs : List ℕ) → NoDigit (bytes "=" ++ cs)
@@ -323,9 +322,9 @@ module _ (t : Typed) (ok : Fits base t) where
   uses_below : (e : Expr) → written e ⊆ first_vars t.count → Below 100 e
   uses_below e h = below_more 64 100 e (omega arith) (written_below 64 (first_vars t.count) e vars_below h)
 
-  vars_read : (n : ℕ) (place : ℕ → ℕ) → due_statement DueVars n place (vars_spelt t.count) begun.typed ≡ Got (sofar DueInit (partly [] []))
+  vars_read : (n : ℕ) → due_statement DueVars n (vars_spelt t.count) begun.typed ≡ Got (sofar DueInit (partly [] []))
   unfolding due_statement vars_statement
-  vars_read n place = on_word_lem (bytes "VARS") (decimal t.count) _ _ ∙ simp (whole-number-spelt n base.variables t.count ok.vars-most (omega arith))
+  vars_read n = on_word_lem (bytes "VARS") (decimal t.count) _ _ ∙ simp (whole-number-spelt n base.variables t.count ok.vars-most (omega arith))
 
   init_read : (n : ℕ) (past : List ℕ) (s : ℕ) (rest : List ℕ) → past ++ s ∷ rest ≡ t.inits → init_statement n (binary_from 0 t.count s) (partly past []) ≡ Got (sofar DueAny (partly (past ++ s ∷ []) []))
   unfolding init_statement
@@ -348,24 +347,24 @@ module _ (t : Typed) (ok : Fits base t) where
         le-ltb base.equation_nodes (total_nodes past + nodes q.right) sum,
       )
 
-  equation_read : (n : ℕ) (place : ℕ → ℕ) (past : List Equation) (q : Equation) (rest : List Equation) → past ++ q ∷ rest ≡ t.equations → equation_statement n place (decimal q.left ++ (bytes "=" ++ spelling q.right)) (partly t.inits past) ≡ Got (sofar DueEquation (partly t.inits (past ++ q ∷ [])))
+  equation_read : (n : ℕ) (past : List Equation) (q : Equation) (rest : List Equation) → past ++ q ∷ rest ≡ t.equations → equation_statement n (decimal q.left ++ (bytes "=" ++ spelling q.right)) (partly t.inits past) ≡ Got (sofar DueEquation (partly t.inits (past ++ q ∷ [])))
   unfolding equation_statement
-  equation_read n place past q rest e =
+  equation_read n past q rest e =
       let fine : Allowed base (first_vars t.count) q = each_at (Allowed base (first_vars t.count)) t.equations q ok.equations-allowed (subst (λ (l : List Equation). q among l) e (among_right past (q ∷ rest) q (inl refl))) in
       let below : q.left < 64 = omega (arith, member_first-vars t.count q.left fine.its, ok.vars-most) in
       simp (
         decimal_read q.left (bytes "=" ++ spelling q.right) (omega arith) (equals_no_digit (spelling q.right)),
         word_behind (bytes "=") (spelling q.right),
-        whole_expr_spelt n place q.right fine.shallow (uses_below q.right fine.uses),
+        whole_expr_spelt n q.right fine.shallow (uses_below q.right fine.uses),
         equation_statement,
       ) (with_equation_read n past q rest e)
 
-  prop_read : (n : ℕ) (place : ℕ → ℕ) → prop_statement n place (spelling t.property) (partly t.inits t.equations) ≡ Got (sofar DueEnd t)
+  prop_read : (n : ℕ) → prop_statement n (spelling t.property) (partly t.inits t.equations) ≡ Got (sofar DueEnd t)
   unfolding prop_statement
-  prop_read n place =
+  prop_read n =
       let within = below_subset t.count (written t.property) ok.property_in in
       simp (
-        whole_expr_spelt n place t.property ok.property-levels (uses_below t.property within),
+        whole_expr_spelt n t.property ok.property-levels (uses_below t.property within),
         inside_true (written t.property) (first_vars t.count) within,
         le-ltb base.property_nodes (nodes t.property) ok.property-nodes,
       )
@@ -387,25 +386,25 @@ module _ (t : Typed) (ok : Fits base t) where
   Open u = (u ≡ DueAny) ⊎ (u ≡ DueEquation)
 
   -- Where an equation or the property is due, what does not begin with `INIT` is read as one of them.
-  open_read : (u : Due) → Open u → (n : ℕ) (place : ℕ → ℕ) (cs : List ℕ) (s : Typed) → behind (bytes "INIT") cs ≡ none → due_statement u n place cs s ≡ equation_or_prop n place cs s
+  open_read : (u : Due) → Open u → (n : ℕ) (cs : List ℕ) (s : Typed) → behind (bytes "INIT") cs ≡ none → due_statement u n cs s ≡ equation_or_prop n cs s
   unfolding due_statement
-  open_read u (inl e) n place cs s h = ap (λ (w : Due). due_statement w n place cs s) e ∙ on_other (bytes "INIT") cs _ _ h
-  open_read u (inr e) n place cs s h = ap (λ (w : Due). due_statement w n place cs s) e
+  open_read u (inl e) n cs s h = ap (λ (w : Due). due_statement w n cs s) e ∙ on_other (bytes "INIT") cs _ _ h
+  open_read u (inr e) n cs s h = ap (λ (w : Due). due_statement w n cs s) e
 
-  end_read : (n : ℕ) (place : ℕ → ℕ) → due_statement DueEnd n place (bytes "END") t ≡ Got (sofar DueNone t)
+  end_read : (n : ℕ) → due_statement DueEnd n (bytes "END") t ≡ Got (sofar DueNone t)
   unfolding due_statement end_statement
-  end_read n place =
-      ap (λ (cs : List ℕ). due_statement DueEnd n place cs t) (sym (append-nil (bytes "END"))) ∙ on_word_lem (bytes "END") [] _ _
+  end_read n =
+      ap (λ (cs : List ℕ). due_statement DueEnd n cs t) (sym (append-nil (bytes "END"))) ∙ on_word_lem (bytes "END") [] _ _
 
   prop_reads : (u : Due) → Open u → Reads (prop_spelt t.property ∷ bytes "END" ∷ []) (sofar u (partly t.inits t.equations)) (sofar DueNone t)
   unfolding equation_or_prop
   prop_reads u o =
       reads_next (prop_spelt t.property) (bytes "END" ∷ []) _ (sofar DueEnd t) _
-      (λ n place.
-      open_read u o n place (prop_spelt t.property) _ (init_not_prop _)
+      (λ n.
+      open_read u o n (prop_spelt t.property) _ (init_not_prop _)
       ∙ on_other (bytes "V") (prop_spelt t.property) _ _ (equation_not_prop _)
       ∙ on_word_lem (bytes "PROP") (spelling t.property) _ _
-      ∙ prop_read n place)
+      ∙ prop_read n)
       (reads_next (bytes "END") [] _ (sofar DueNone t) _ end_read (reads_none (sofar DueNone t)))
 
   equation_reads : (qs past : List Equation) (u : Due) → Open u → past ++ qs ≡ t.equations → Reads (map equation_spelt qs ++ (prop_spelt t.property ∷ bytes "END" ∷ [])) (sofar u (partly t.inits past)) (sofar DueNone t)
@@ -413,10 +412,10 @@ module _ (t : Typed) (ok : Fits base t) where
   equation_reads [] past u o e = subst (λ (qs : List Equation). Reads (prop_spelt t.property ∷ bytes "END" ∷ []) (sofar u (partly t.inits qs)) (sofar DueNone t)) (sym e ∙ append-nil past) (prop_reads u o)
   equation_reads (q ∷ qs) past u o e =
       reads_next (equation_spelt q) _ _ (sofar DueEquation (partly t.inits (past ++ q ∷ []))) _
-      (λ n place.
-      open_read u o n place (equation_spelt q) _ (init_not_equation _)
+      (λ n.
+      open_read u o n (equation_spelt q) _ (init_not_equation _)
       ∙ on_word_lem (bytes "V") (decimal q.left ++ (bytes "=" ++ spelling q.right)) _ _
-      ∙ equation_read n place past q qs e)
+      ∙ equation_read n past q qs e)
       (equation_reads qs (past ++ q ∷ []) DueEquation (inr refl) (append_assoc past (q ∷ []) qs ∙ e))
 
   init_reads : (ss past : List ℕ) → past ++ ss ≡ t.inits → Reads (map (init_spelt t.count) ss ++ (map equation_spelt t.equations ++ (prop_spelt t.property ∷ bytes "END" ∷ []))) (sofar DueAny (partly past [])) (sofar DueNone t)
@@ -424,7 +423,7 @@ module _ (t : Typed) (ok : Fits base t) where
   init_reads [] past e = subst (λ (ss : List ℕ). Reads (map equation_spelt t.equations ++ (prop_spelt t.property ∷ bytes "END" ∷ [])) (sofar DueAny (partly ss [])) (sofar DueNone t)) (sym e ∙ append-nil past) (equation_reads t.equations [] DueAny (inl refl) refl)
   init_reads (s ∷ ss) past e =
       reads_next (init_spelt t.count s) _ _ (sofar DueAny (partly (past ++ s ∷ []) [])) _
-      (λ n place. on_word_lem (bytes "INIT") (binary_from 0 t.count s) _ _ ∙ init_read n past s ss e)
+      (λ n. on_word_lem (bytes "INIT") (binary_from 0 t.count s) _ _ ∙ init_read n past s ss e)
       (init_reads ss (past ++ s ∷ []) (append_assoc past (s ∷ []) ss ∙ e))
 
   first_reads : (ss : List ℕ) → ss ≡ t.inits → Reads (map (init_spelt t.count) ss ++ (map equation_spelt t.equations ++ (prop_spelt t.property ∷ bytes "END" ∷ []))) (sofar DueInit (partly [] [])) (sofar DueNone t)
@@ -432,7 +431,7 @@ module _ (t : Typed) (ok : Fits base t) where
   first_reads [] e = absurd (omega (arith, ap length e, ok.inits-some))
   first_reads (s ∷ ss) e =
       reads_next (init_spelt t.count s) _ _ (sofar DueAny (partly (s ∷ []) [])) _
-      (λ n place. on_word_lem (bytes "INIT") (binary_from 0 t.count s) _ _ ∙ init_read n [] s ss e)
+      (λ n. on_word_lem (bytes "INIT") (binary_from 0 t.count s) _ _ ∙ init_read n [] s ss e)
       (init_reads ss (s ∷ []) e)
 
   -- Statements that are the spelling of what was typed are read as that.

@@ -108,14 +108,14 @@ whole-number_got n most cs v h = go (read_number cs) refl
     go (Number x (r ∷ rs)) p = refused_got (simp (p, whole_number) at h)
     go (NoNumber rs) p = refused_got (simp (p, whole_number) at h)
 
-pub whole_expr_spelt : (n : ℕ) (place : ℕ → ℕ) (e : Expr) → levels e ≤ base.levels → Below 100 e → whole_expr n place (spelling e) ≡ Got e
+pub whole_expr_spelt : (n : ℕ) (e : Expr) → levels e ≤ base.levels → Below 100 e → whole_expr n (spelling e) ≡ Got e
 unfolding whole_expr
-whole_expr_spelt n place e h b =
+whole_expr_spelt n e h b =
     let whole = ap (read_expr base.levels) (sym (append-nil (spelling e))) ∙ spelling_read e base.levels [] h b tt in simp (whole, whole_expr)
 
-pub whole_expr_got : (n : ℕ) (place : ℕ → ℕ) (cs : List ℕ) (e : Expr) → whole_expr n place cs ≡ Got e → (cs ≡ spelling e) × (levels e ≤ base.levels) × Below 100 e
+pub whole_expr_got : (n : ℕ) (cs : List ℕ) (e : Expr) → whole_expr n cs ≡ Got e → (cs ≡ spelling e) × (levels e ≤ base.levels) × Below 100 e
 unfolding whole_expr
-whole_expr_got n place cs e h = go (read_expr base.levels cs) refl
+whole_expr_got n cs e h = go (read_expr base.levels cs) refl
   where
     go : (r : Reading) → read_expr base.levels cs ≡ r → (cs ≡ spelling e) × (levels e ≤ base.levels) × Below 100 e
     go (Whole a []) p =
@@ -132,14 +132,14 @@ binary_digit_lem : (c : ℕ) → (c ≡ 48) ⊎ (c ≡ 49) → (eqb c 48 || eqb 
 binary_digit_lem c (inl e) = rw e
 binary_digit_lem c (inr e) = rw e
 
-pub digit_binary : (c : ℕ) → (eqb c 48 || eqb c 49) ≡ true → (c ≡ 48) ⊎ (c ≡ 49)
+digit_binary : (c : ℕ) → (eqb c 48 || eqb c 49) ≡ true → (c ≡ 48) ⊎ (c ≡ 49)
 digit_binary c h = go (eqb c 48) refl h
   where
     go : (t : Bool) → eqb c 48 ≡ t → (t || eqb c 49) ≡ true → (c ≡ 48) ⊎ (c ≡ 49)
     go true e k = inl (eqb-true c 48 e)
     go false e k = inr (eqb-true c 49 k)
 
-pub binary_next : (i k s c : ℕ) (cs : List ℕ) → (c ≡ 48) ⊎ (c ≡ 49) → read_binary i (suc k) s (c ∷ cs) ≡ read_binary (suc i) k (s + digit_value c * 2 ^ i) cs
+binary_next : (i k s c : ℕ) (cs : List ℕ) → (c ≡ 48) ⊎ (c ≡ 49) → read_binary i (suc k) s (c ∷ cs) ≡ read_binary (suc i) k (s + digit_value c * 2 ^ i) cs
 unfolding read_binary
 binary_next i k s c cs h = simp (binary_digit_lem c h, read_binary)
 

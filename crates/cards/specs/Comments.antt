@@ -1,5 +1,5 @@
 -- Comments mean nothing: the cards without them, and what two texts of the same cards but for comments may differ in (RULES 2.3).
-use Rattle.std.specs.Prelude.{◌≡◌, ◌⊎◌, true, false, not, List, [], ◌∷◌, ℕ, suc, ◌+◌, ◌*◌, ◌<◌, ◌≤◌, length, get_or}
+use Rattle.std.specs.Prelude.{◌≡◌, ◌⊎◌, true, false, not, List, [], ◌∷◌, ℕ, suc, ◌≤◌, length, get_or}
 use Rattle.lists.specs.Lists.{Each, keep}
 use Rattle.logic.specs.Decks.{base}
 use Rattle.cards.specs.Card.{cards_of}
@@ -28,9 +28,8 @@ pub record SameButComments (one other : List ℕ) : Type 0 where
   pub formed : CommentsFormed (cards_of one) × CommentsFormed (cards_of other)
   pub short : (length one ≤ base.text) × (length other ≤ base.text)
 
--- The places p and q of two replies with one number, to these texts, name the same: a variable (15), one card by the number that it has in each, or one column (24) of such a card.
+-- The places p and q of two replies with one number, to these texts, name the same: a variable (15), or one card by the number that it has in each.
 abbrev pub SamePlace : List ℕ → List ℕ → ℕ → ℕ → ℕ → Type 0
 SamePlace one other number p q =
     ((number ≡ 15) × (p ≡ q))
-    ⊎ (((number ≡ 24) × ((k : ℕ) × (c : ℕ) × (c < 100) × (p ≡ 100 * number_of (cards_of one) k + c) × (q ≡ 100 * number_of (cards_of other) k + c)))
-    ⊎ ((number ≡ 15 → ⊥) × (number ≡ 24 → ⊥) × ((k : ℕ) × (p ≡ number_of (cards_of one) k) × (q ≡ number_of (cards_of other) k))))
+    ⊎ ((number ≡ 15 → ⊥) × ((k : ℕ) × (p ≡ number_of (cards_of one) k) × (q ≡ number_of (cards_of other) k)))

@@ -1,11 +1,8 @@
 pub mod Card
 pub mod Statement
-pub mod Places
 pub mod Grammar
 pub mod Typed
 pub mod Read
 pub mod Columns
 pub mod Comments
 pub mod Deep
-pub mod Right
-pub mod Standing

@@ -6,12 +6,11 @@ use Rattle.lists.specs.Texts.{bytes}
 use Rattle.sets.specs.Sets.{has, inside}
 use Rattle.logic.specs.Expressions.{Expr, Const, nodes, written, temporal}
 use Rattle.logic.specs.Decks.{Equation, Deck, base, total_nodes}
-use Rattle.decks.specs.declared.Answer.TheVariants.{TooLong, Outside, Temporal, TooDeep, ManyInitials, ManyEquations, ManyNodes, NotDue, BadExpression, BadInitial, NoStatement}
+use Rattle.decks.specs.declared.Answer.TheVariants.{TooLong, NotDue, Outside, Temporal, TooDeep, ManyInitials, ManyEquations, ManyNodes}
 use Rattle.decks.specs.Answers.{Outcome, Got, Refused, refuse, afterwards}
 use Rattle.decks.specs.Readings.{Whole, Wrong, Deep, walk, complete}
 use Rattle.cards.specs.Card.{cards_of, in_form}
 use Rattle.cards.specs.Statement.{Statement, inked, statements_of}
-use Rattle.cards.specs.Places.{places_of, place_left}
 use Rattle.cards.specs.Grammar.{Number, NoNumber, digit_value, read_number, read_expr}
 use Rattle.cards.specs.Typed.{Typed, first_vars, deck_of}
 
@@ -33,17 +32,11 @@ pub record Sofar : Type 0 where
 abbrev pub begun : Sofar
 begun = record { due = DueVars; typed = record { count = 0; inits = []; equations = []; property = Const false } }
 
--- The expression that fills the rest of the statement of card n, or 24 or 11, whichever is met first. From the fault of 24 on so many characters are left, which gives its place.
-unfoldable pub whole_expr : ℕ → (ℕ → ℕ) → List ℕ → Outcome Expr
-whole_expr n place cs =
-    elim (read_expr base.levels cs) [
-      | Whole e [] ↦ Got e
-      | Whole e (r ∷ rs) ↦ Refused (BadExpression (place (length (r ∷ rs))))
-      | Wrong rs ↦ Refused (BadExpression (place (length rs)))
-      | Deep rs ↦ Refused (TooDeep n)
-    ]
+-- The expression that fills the rest of the statement of card n, or 8 or 11, whichever is met first.
+unfoldable pub whole_expr : ℕ → List ℕ → Outcome Expr
+whole_expr n cs = elim (read_expr base.levels cs) [ Whole e [] ↦ Got e | Whole e (r ∷ rs) ↦ Refused (NotDue n) | Wrong rs ↦ Refused (NotDue n) | Deep rs ↦ Refused (TooDeep n) ]
 
--- The number that fills the rest of the statement of card n, no larger than most, or 23.
+-- The number that fills the rest of the statement of card n, no larger than most, or 8.
 unfoldable pub whole_number : ℕ → ℕ → List ℕ → Outcome ℕ
 whole_number n most cs =
     elim (read_number cs) [
@@ -66,11 +59,11 @@ read_binary i (suc k) s [] = none
 read_binary i (suc k) s (c ∷ cs) =
     elim (eqb c (character "0") || eqb c (character "1")) [ true ↦ read_binary (suc i) k (s + digit_value c * 2 ^ i) cs | false ↦ none ]
 
--- `INIT` with n binary digits, or 25; then 12, equal ones counted.
+-- `INIT` with n binary digits; then 12, equal ones counted.
 unfoldable pub init_statement : ℕ → List ℕ → Typed → Outcome Sofar
 init_statement n cs t =
     elim (read_binary 0 t.count 0 cs) [
-      | none ↦ Refused (BadInitial n)
+      | none ↦ Refused (NotDue n)
       | some s ↦
           refuse (ltb base.initials (length t.inits + 1)) (ManyInitials n)
           (Got (record { due = DueAny; typed = record { count = t.count; inits = t.inits ++ (s ∷ []); equations = t.equations; property = t.property } }))
@@ -86,22 +79,22 @@ with_equation n t q =
     (refuse (ltb base.equation_nodes (total_nodes t.equations + nodes q.right)) (ManyNodes n)
     (Got (record { due = DueEquation; typed = record { count = t.count; inits = t.inits; equations = t.equations ++ (q ∷ []); property = t.property } }))))))
 
--- `Vi=` and an expression; cs stands behind the `V`. 23 where that is no `Vi=`.
-unfoldable pub equation_statement : ℕ → (ℕ → ℕ) → List ℕ → Typed → Outcome Sofar
-equation_statement n place cs t =
+-- `Vi=` and an expression; cs stands behind the `V`.
+unfoldable pub equation_statement : ℕ → List ℕ → Typed → Outcome Sofar
+equation_statement n cs t =
     elim (read_number cs) [
       | NoNumber rs ↦ Refused (NotDue n)
       | Number v rs ↦
           elim (behind (bytes "=") rs) [
             | none ↦ Refused (NotDue n)
-            | some es ↦ afterwards (whole_expr n place es) (λ e. with_equation n t (record { left = v; right = e }))
+            | some es ↦ afterwards (whole_expr n es) (λ e. with_equation n t (record { left = v; right = e }))
           ]
     ]
 
 -- `PROP` and an expression; 9, then 14.
-unfoldable pub prop_statement : ℕ → (ℕ → ℕ) → List ℕ → Typed → Outcome Sofar
-prop_statement n place cs t =
-    afterwards (whole_expr n place cs)
+unfoldable pub prop_statement : ℕ → List ℕ → Typed → Outcome Sofar
+prop_statement n cs t =
+    afterwards (whole_expr n cs)
     (λ e.
     refuse (not (inside (written e) (first_vars t.count))) (Outside 1 n)
     (refuse (ltb base.property_nodes (nodes e)) (ManyNodes n)
@@ -117,32 +110,32 @@ abbrev pub on_word : List ℕ → List ℕ → (List ℕ → Outcome Sofar) → 
 on_word w cs f other = elim (behind w cs) [ some rs ↦ f rs | none ↦ other ]
 
 -- An equation or the property.
-unfoldable pub equation_or_prop : ℕ → (ℕ → ℕ) → List ℕ → Typed → Outcome Sofar
-equation_or_prop n place cs t =
-    on_word (bytes "V") cs (λ rs. equation_statement n place rs t) (on_word (bytes "PROP") cs (λ rs. prop_statement n place rs t) (Refused (NotDue n)))
+unfoldable pub equation_or_prop : ℕ → List ℕ → Typed → Outcome Sofar
+equation_or_prop n cs t =
+    on_word (bytes "V") cs (λ rs. equation_statement n rs t) (on_word (bytes "PROP") cs (λ rs. prop_statement n rs t) (Refused (NotDue n)))
 
--- A statement of card n where another may be due: 23 where none of the forms due begins it. `place` says at which card and column so many of its characters are left.
-unfoldable pub due_statement : Due → ℕ → (ℕ → ℕ) → List ℕ → Typed → Outcome Sofar
-due_statement DueVars n place cs t = on_word (bytes "VARS") cs (λ rs. vars_statement n rs t) (Refused (NotDue n))
-due_statement DueInit n place cs t = on_word (bytes "INIT") cs (λ rs. init_statement n rs t) (Refused (NotDue n))
-due_statement DueAny n place cs t = on_word (bytes "INIT") cs (λ rs. init_statement n rs t) (equation_or_prop n place cs t)
-due_statement DueEquation n place cs t = equation_or_prop n place cs t
-due_statement DueEnd n place cs t = on_word (bytes "END") cs (λ rs. end_statement n rs t) (Refused (NotDue n))
-due_statement DueNone n place cs t = Refused (NotDue n)
+-- A statement of card n where another may be due: 8 where none of the forms due begins it.
+unfoldable pub due_statement : Due → ℕ → List ℕ → Typed → Outcome Sofar
+due_statement DueVars n cs t = on_word (bytes "VARS") cs (λ rs. vars_statement n rs t) (Refused (NotDue n))
+due_statement DueInit n cs t = on_word (bytes "INIT") cs (λ rs. init_statement n rs t) (Refused (NotDue n))
+due_statement DueAny n cs t = on_word (bytes "INIT") cs (λ rs. init_statement n rs t) (equation_or_prop n cs t)
+due_statement DueEquation n cs t = equation_or_prop n cs t
+due_statement DueEnd n cs t = on_word (bytes "END") cs (λ rs. end_statement n rs t) (Refused (NotDue n))
+due_statement DueNone n cs t = Refused (NotDue n)
 
 -- The statements so far, and one more.
 unfoldable pub statement_read : ℕ → Statement → Sofar → Outcome Sofar
-statement_read i s so = due_statement so.due s.card (place_left (places_of s)) (inked s.field) so.typed
+statement_read i s so = due_statement so.due s.card (inked s.field) so.typed
 
--- Behind the last statement: 26 for a missing one; then 15.
+-- Behind the last statement: 8 at place 0 for a missing one; then 15.
 unfoldable pub cards_end : Sofar → Outcome Deck
 cards_end s =
     elim s.due [
-      | DueVars ↦ Refused NoStatement
-      | DueInit ↦ Refused NoStatement
-      | DueAny ↦ Refused NoStatement
-      | DueEquation ↦ Refused NoStatement
-      | DueEnd ↦ Refused NoStatement
+      | DueVars ↦ Refused (NotDue 0)
+      | DueInit ↦ Refused (NotDue 0)
+      | DueAny ↦ Refused (NotDue 0)
+      | DueEquation ↦ Refused (NotDue 0)
+      | DueEnd ↦ Refused (NotDue 0)
       | DueNone ↦ complete (deck_of s.typed)
     ]
 

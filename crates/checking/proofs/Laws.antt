@@ -123,7 +123,7 @@ module _ (read : DeckRead) (inits lefts ends nodes property : List ℕ) where
       where
         go : (o : Outcome Claim) → read_claim d.vars claim ≡ o → Numbered o → ClaimCame o m states → (M : Claim) × (read_claim d.vars claim ≡ Got M) × Sized base M × ClaimCame (Got M) m states
         go (Got M) e h g = (M, e, (claim_read_sized d.vars claim M e).0, g)
-        go (Refused x) e h g = absurd (omega (arith, (fault x h).0.0, z, number_of (Refused x) g))
+        go (Refused x) e h g = absurd (omega (arith, (fault x h).0, z, number_of (Refused x) g))
 
     pub claimed : (D : Deck) × Accepted base D × Here D → b.number ≡ 0 → Claimed m states
     claimed (d, ok, f) z = let (M, e, sized, g) = claim_there d f z in (M, sized, g)

@@ -1,16 +1,15 @@
--- Every refusal of a reader has one of the numbers 1 to 16 and 23 to 26, and names the deck or the claim and a place within the longest text.
+-- Every refusal of a reader has one of the numbers 1 to 16, and names the deck or the claim and a place within the longest text.
 use mathlib.Core.Path.{◌≡◌, refl}
-use mathlib.Core.Logic.{◌⊎◌, inl, inr, ⊎_elim}
 use mathlib.Core.Bool.{Bool, true, false}
 use mathlib.Core.List.{List, [], ◌∷◌}
-use Prim.Native.Nat.{ℕ, suc, ◌+◌, ◌*◌, ◌≤◌}
+use Prim.Native.Nat.{ℕ, suc, ◌+◌, ◌≤◌}
 use native.Mathlib.Omega.{arith}
 use borrow.Author.Tests.{ltb-false}
 use lib.Dec.{ltb, lit≤}
 use lib.ListN.{length}
 use Rattle.logic.specs.Decks.{base}
 use Rattle.decks.specs.declared.Answer.{Answer}
-use Rattle.decks.specs.declared.Answer.TheVariants.{Fine, TooLong, BadByte, TooWide, BadStart, BadNumber, NoneOpen, TooManyCards, Outside, Temporal, TooDeep, ManyInitials, ManyEquations, ManyNodes, NoEquation, BadFrame, NoRoom, NotInitial, NoStep, Holding, NotDue, BadExpression, BadInitial, NoStatement}
+use Rattle.decks.specs.declared.Answer.TheVariants.{Fine, TooLong, BadByte, TooWide, BadStart, BadNumber, NoneOpen, TooManyCards, NotDue, Outside, Temporal, TooDeep, ManyInitials, ManyEquations, ManyNodes, NoEquation, BadFrame, NoRoom, NotInitial, NoStep, Holding}
 use Rattle.decks.specs.declared.Reply.{Reply}
 use Rattle.decks.specs.Answers.{Outcome, Got, Refused, reply_of, refuse, afterwards}
 use Rattle.decks.specs.Readings.{walk}
@@ -18,10 +17,6 @@ use Rattle.decks.specs.Readings.{walk}
 -- A text has a card more than bytes at most.
 abbrev pub farthest : ℕ
 farthest = base.text + 1
-
--- A place of card and column is at most the column after the field of the last card.
-abbrev pub farthest_place : ℕ
-farthest_place = 100 * farthest + 73
 
 -- The answers that a reader may refuse with, and what is to be known of their texts and places.
 abbrev pub Names : Answer → Type 0
@@ -33,6 +28,7 @@ Names (BadStart p) = p ≤ farthest
 Names (BadNumber p) = p ≤ farthest
 Names (NoneOpen p) = p ≤ farthest
 Names (TooManyCards p) = p ≤ farthest
+Names (NotDue p) = p ≤ farthest
 Names (Outside t p) = (t ≤ 2) × (p ≤ farthest)
 Names (Temporal p) = p ≤ farthest
 Names (TooDeep p) = p ≤ farthest
@@ -45,52 +41,33 @@ Names (NoRoom p) = ⊥
 Names NotInitial = ⊥
 Names (NoStep p) = ⊥
 Names Holding = ⊥
-Names (NotDue p) = p ≤ farthest
-Names (BadExpression p) = p ≤ farthest_place
-Names (BadInitial p) = p ≤ farthest
-Names NoStatement = Unit
-
--- The numbers that name a fault of a text.
-abbrev pub OfText : ℕ → Type 0
-OfText n = (1 ≤ n) × ((n ≤ 16) ⊎ ((23 ≤ n) × (n ≤ 26)))
 
 -- A number of a text's fault, the text and the place within bounds.
 abbrev pub Fault : Reply → Type 0
-Fault r = OfText r.number × (r.text ≤ 2) × (r.place ≤ farthest_place)
-
--- A card, a line or a variable is within the bounds of all places.
-near : (p : ℕ) → p ≤ farthest → p ≤ farthest_place
-near p h = omega arith
+Fault r = (1 ≤ r.number) × (r.number ≤ 16) × (r.text ≤ 2) × (r.place ≤ farthest)
 
 pub fault : (a : Answer) → Names a → Fault (reply_of a)
 fault Fine h = absurd h
-fault (TooLong t) h = ((lit≤ tt, inl (lit≤ tt)), h, lit≤ tt)
-fault (BadByte p) h = ((lit≤ tt, inl (lit≤ tt)), lit≤ tt, near p h)
-fault (TooWide p) h = ((lit≤ tt, inl (lit≤ tt)), lit≤ tt, near p h)
-fault (BadStart p) h = ((lit≤ tt, inl (lit≤ tt)), lit≤ tt, near p h)
-fault (BadNumber p) h = ((lit≤ tt, inl (lit≤ tt)), lit≤ tt, near p h)
-fault (NoneOpen p) h = ((lit≤ tt, inl (lit≤ tt)), lit≤ tt, near p h)
-fault (TooManyCards p) h = ((lit≤ tt, inl (lit≤ tt)), lit≤ tt, near p h)
-fault (Outside t p) h = ((lit≤ tt, inl (lit≤ tt)), h.0, near p h.1)
-fault (Temporal p) h = ((lit≤ tt, inl (lit≤ tt)), lit≤ tt, near p h)
-fault (TooDeep p) h = ((lit≤ tt, inl (lit≤ tt)), lit≤ tt, near p h)
-fault (ManyInitials p) h = ((lit≤ tt, inl (lit≤ tt)), lit≤ tt, near p h)
-fault (ManyEquations p) h = ((lit≤ tt, inl (lit≤ tt)), lit≤ tt, near p h)
-fault (ManyNodes p) h = ((lit≤ tt, inl (lit≤ tt)), lit≤ tt, near p h)
-fault (NoEquation p) h = ((lit≤ tt, inl (lit≤ tt)), lit≤ tt, near p h)
-fault (BadFrame t p) h = ((lit≤ tt, inl (lit≤ tt)), h.0, near p h.1)
+fault (TooLong t) h = (lit≤ tt, lit≤ tt, h, lit≤ tt)
+fault (BadByte p) h = (lit≤ tt, lit≤ tt, lit≤ tt, h)
+fault (TooWide p) h = (lit≤ tt, lit≤ tt, lit≤ tt, h)
+fault (BadStart p) h = (lit≤ tt, lit≤ tt, lit≤ tt, h)
+fault (BadNumber p) h = (lit≤ tt, lit≤ tt, lit≤ tt, h)
+fault (NoneOpen p) h = (lit≤ tt, lit≤ tt, lit≤ tt, h)
+fault (TooManyCards p) h = (lit≤ tt, lit≤ tt, lit≤ tt, h)
+fault (NotDue p) h = (lit≤ tt, lit≤ tt, lit≤ tt, h)
+fault (Outside t p) h = (lit≤ tt, lit≤ tt, h.0, h.1)
+fault (Temporal p) h = (lit≤ tt, lit≤ tt, lit≤ tt, h)
+fault (TooDeep p) h = (lit≤ tt, lit≤ tt, lit≤ tt, h)
+fault (ManyInitials p) h = (lit≤ tt, lit≤ tt, lit≤ tt, h)
+fault (ManyEquations p) h = (lit≤ tt, lit≤ tt, lit≤ tt, h)
+fault (ManyNodes p) h = (lit≤ tt, lit≤ tt, lit≤ tt, h)
+fault (NoEquation p) h = (lit≤ tt, lit≤ tt, lit≤ tt, h)
+fault (BadFrame t p) h = (lit≤ tt, lit≤ tt, h.0, h.1)
 fault (NoRoom p) h = absurd h
 fault NotInitial h = absurd h
 fault (NoStep p) h = absurd h
 fault Holding h = absurd h
-fault (NotDue p) h = ((lit≤ tt, inr (lit≤ tt, lit≤ tt)), lit≤ tt, near p h)
-fault (BadExpression p) h = ((lit≤ tt, inr (lit≤ tt, lit≤ tt)), lit≤ tt, h)
-fault (BadInitial p) h = ((lit≤ tt, inr (lit≤ tt, lit≤ tt)), lit≤ tt, near p h)
-fault NoStatement h = ((lit≤ tt, inr (lit≤ tt, lit≤ tt)), lit≤ tt, lit≤ tt)
-
--- None of them is 17.
-pub no_room_other : (a : Answer) → Names a → (reply_of a).number ≡ 17 → ⊥
-no_room_other a h e = ⊎_elim (λ l. omega (arith, l, e)) (λ (l, m). omega (arith, l, e)) (fault a h).0.1
 
 -- A refusal is one of them.
 abbrev pub Numbered : {A : Type 0} → Outcome A → Type 0

@@ -63,22 +63,6 @@ module _ {A : Type 0} where
   afterwards_given P (Got x) f g = g x refl
   afterwards_given P (Refused a) f g = tt
 
--- ---- other answers
-
--- The outcome, with F of the answer where it is refused.
-abbrev pub answered : {A : Type 0} → (Answer → Answer) → Outcome A → Outcome A
-answered F (Got x) = Got x
-answered F (Refused a) = Refused (F a)
-
-module _ (F : Answer → Answer) where
-  pub refuse_answered : {A : Type 0} (t : Bool) (a : Answer) (r : Outcome A) → answered F (refuse t a r) ≡ refuse t (F a) (answered F r)
-  refuse_answered true a r = refl
-  refuse_answered false a r = refl
-
-  pub afterwards_answered : {A B : Type 0} (r : Outcome A) (f : A → Outcome B) → answered F (afterwards r f) ≡ afterwards (answered F r) (λ x. answered F (f x))
-  afterwards_answered (Got x) f = refl
-  afterwards_answered (Refused a) f = refl
-
 -- ---- the walk
 
 module _ {A S : Type 0} (f : ℕ → A → S → Outcome S) where

@@ -1,7 +1,7 @@
 -- Answers: the number, the text at fault (1 deck, 2 claim, 0 neither) and the place of each case (RULES 7.2).
 use Rattle.std.specs.Prelude.{Bool, true, false, ℕ}
 use Rattle.decks.specs.declared.Answer.{Answer}
-use Rattle.decks.specs.declared.Answer.TheVariants.{Fine, TooLong, BadByte, TooWide, BadStart, BadNumber, NoneOpen, TooManyCards, Outside, Temporal, TooDeep, ManyInitials, ManyEquations, ManyNodes, NoEquation, BadFrame, NoRoom, NotInitial, NoStep, Holding, NotDue, BadExpression, BadInitial, NoStatement}
+use Rattle.decks.specs.declared.Answer.TheVariants.{Fine, TooLong, BadByte, TooWide, BadStart, BadNumber, NoneOpen, TooManyCards, NotDue, Outside, Temporal, TooDeep, ManyInitials, ManyEquations, ManyNodes, NoEquation, BadFrame, NoRoom, NotInitial, NoStep, Holding}
 use Rattle.decks.specs.declared.Reply.{Reply}
 
 abbrev says : ℕ → ℕ → ℕ → Reply
@@ -16,6 +16,7 @@ reply_of (BadStart p) = says 4 1 p
 reply_of (BadNumber p) = says 5 1 p
 reply_of (NoneOpen p) = says 6 1 p
 reply_of (TooManyCards p) = says 7 1 p
+reply_of (NotDue p) = says 8 1 p
 reply_of (Outside t p) = says 9 t p
 reply_of (Temporal p) = says 10 1 p
 reply_of (TooDeep p) = says 11 1 p
@@ -28,10 +29,6 @@ reply_of (NoRoom p) = says 17 0 p
 reply_of NotInitial = says 20 2 0
 reply_of (NoStep p) = says 21 2 p
 reply_of Holding = says 22 2 0
-reply_of (NotDue p) = says 23 1 p
-reply_of (BadExpression p) = says 24 1 p
-reply_of (BadInitial p) = says 25 1 p
-reply_of NoStatement = says 26 1 0
 
 -- What a reader comes to: a result, or one refusal.
 pub data Outcome (A : Type 0) : Type 0 where

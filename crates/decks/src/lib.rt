@@ -52,6 +52,7 @@ pub enum Answer {
     BadNumber(u64),
     NoneOpen(u64),
     TooManyCards(u64),
+    NotDue(u64),
     Outside(u64, u64),
     Temporal(u64),
     TooDeep(u64),
@@ -64,10 +65,6 @@ pub enum Answer {
     NotInitial,
     NoStep(u64),
     Holding,
-    NotDue(u64),
-    BadExpression(u64),
-    BadInitial(u64),
-    NoStatement,
 }
 
 // Number, text at fault and place.
@@ -224,6 +221,11 @@ pub fn reply_of(a: Answer) -> Reply
             text: 1,
             place: p,
         },
+        Answer::NotDue(p) => Reply {
+            number: 8,
+            text: 1,
+            place: p,
+        },
         Answer::Outside(t, p) => Reply {
             number: 9,
             text: t,
@@ -282,26 +284,6 @@ pub fn reply_of(a: Answer) -> Reply
         Answer::Holding => Reply {
             number: 22,
             text: 2,
-            place: 0,
-        },
-        Answer::NotDue(p) => Reply {
-            number: 23,
-            text: 1,
-            place: p,
-        },
-        Answer::BadExpression(p) => Reply {
-            number: 24,
-            text: 1,
-            place: p,
-        },
-        Answer::BadInitial(p) => Reply {
-            number: 25,
-            text: 1,
-            place: p,
-        },
-        Answer::NoStatement => Reply {
-            number: 26,
-            text: 1,
             place: 0,
         },
     }

@@ -1,6 +1,6 @@
 -- The three demands, as theorems about what the operations promise. Hypotheses speak of texts, lent buffers and replies alone.
 use mathlib.Core.Path.{◌≡◌, refl, sym, ap, ◌∙◌, subst}
-use mathlib.Core.Logic.{⊎_elim, ◌↔◌}
+use mathlib.Core.Logic.{◌↔◌}
 use mathlib.Core.List.{List, map}
 use Prim.Native.Nat.{ℕ, ◌+◌, ◌<◌, ◌≤◌}
 use native.Mathlib.Omega.{arith}
@@ -30,21 +30,17 @@ use Rattle.cards.specs.Read.{read_cards}
 use Rattle.cards.specs.Comments.{uncommented, CommentsFormed, SameButComments, SamePlace}
 use Rattle.cards.proofs.NothingDropped.{nothing_dropped, cards_accepted}
 use Rattle.cards.proofs.CommentMeansNothing.{SameReply, comment_means_nothing, comment_same_reply}
-use Rattle.texts.specs.Texts.{Filled}
-use Rattle.pieces.specs.declared.Reduced.{Reduced}
 use Rattle.pieces.specs.Reduced.{all_frames, piece_bytes}
 use Rattle.pieces.proofs.Theorems.{pieces_read_back}
 use Rattle.claims.specs.Checked.{verdict_answer, checked}
 use Rattle.replies.specs.declared.DeckReply.{DeckReply}
 use Rattle.replies.specs.declared.CountReply.{CountReply}
 use Rattle.replies.specs.Replies.{read_reply, write_reply, write_buffer, reduce_reply, reduce_buffer, cone_reply}
-use Rattle.refusals.specs.FirstFault.{FirstFault}
-use Rattle.refusals.proofs.FirstFault.{first-fault}
-use Rattle.checking.proofs.Numbered.{OfText, Numbered}
+use Rattle.checking.proofs.Numbered.{Numbered}
 use Rattle.station.specs.Promises.{ReadsCards, ReadsFrames, WritesCards, WritesFrames, ReducesCards, ReducesFrames, FindsCone, ChecksClaim}
 use Rattle.station.proofs.NumberedCards.{cards_numbered}
 use Rattle.station.proofs.NumberedFrames.{deck-numbered}
-use Rattle.station.proofs.ReplyLaws.{zero_names_nothing, read_refused, read_success, read_got, first-bytes, behind-bytes, write_refused, write_success, write_got, reduce_refused, reduce_success, reduce_got, reduce_no_room, cone_refused, cone_success, cone_got, BothRead, both_checked, checked_both, filled_as, reduced_as, verdict_0, verdict_20, verdict_21, verdict_22}
+use Rattle.station.proofs.ReplyLaws.{zero_names_nothing, read_refused, read_success, read_got, first-bytes, behind-bytes, write_refused, write_success, write_got, reduce_refused, reduce_success, reduce_got, reduce_no_room, cone_refused, cone_success, cone_got, BothRead, both_checked, OfText, checked_both, verdict_0, verdict_20, verdict_21, verdict_22}
 
 -- ==== Demand 1
 -- Every text handed in gets a reply: a deck, a cone, reduced decks, a verdict on a claimed run, or one numbered refusal with its place.
@@ -220,23 +216,6 @@ reduce_told : (o : Outcome Deck) (out : List ℕ) → ((read_reply o).number ≡
 reduce_told (Got d) out n = absurd (n refl)
 reduce_told (Refused a) out n = refl
 
--- A deck that is read is not replied to with 24.
-write_24 : (o : Outcome Deck) (out : List ℕ) → (write_reply o out).number ≡ 24 → (read_reply o).number ≡ 0 → ⊥
-write_24 (Got d) out n z =
-    ⊎_elim
-    (λ (l, e). omega (arith, n, ap (λ (f : Filled). (reply_of f.report.answer).number) e))
-    (λ (l, e). omega (arith, n, ap (λ (f : Filled). (reply_of f.report.answer).number) e))
-    (filled_as (deck_frames d) out)
-write_24 (Refused a) out n z = omega (arith, n, z)
-
-reduce_24 : (o : Outcome Deck) (out : List ℕ) → (reduce_reply o out).number ≡ 24 → (read_reply o).number ≡ 0 → ⊥
-reduce_24 (Got d) out n z =
-    ⊎_elim
-    (λ (l, e, b). omega (arith, n, ap (λ (r : Reduced). (reply_of r.answer).number) e))
-    (λ (l, e, b). omega (arith, n, ap (λ (r : Reduced). (reply_of r.answer).number) e))
-    (reduced_as d out)
-reduce_24 (Refused a) out n z = omega (arith, n, z)
-
 -- Two texts of the same cards but for comments, accepted or refused: the replies have one number and one text, and name one card by the number that it has in each text, or one variable. Where they are refused, so they are by every operation on cards.
 module _ (one other : List ℕ) (same : SameButComments one other) where
   alike : (x y : Reply) → x ≡ told (read_reply (read_cards one)) → y ≡ told (read_reply (read_cards other)) → SameReply one other x y
@@ -264,30 +243,6 @@ module _ (one other : List ℕ) (same : SameButComments one other) where
         → (r.number ≡ s.number) × (r.text ≡ s.text) × SamePlace one other r.number r.place s.place
     comment_same_refusal_reduces_cards out r s after later (o, b) (p, c) =
         alike (counted r) (counted s) (ap counted o ∙ reduce_told (read_cards one) out one_refused) (ap counted p ∙ reduce_told (read_cards other) out other_refused)
-
--- A text of cards refused with 24, by whichever operation: the place names a card and a column of the text; what the statement has before it can be completed to a right statement of a kind due, and with the character that stands there it cannot. Where the statement ends before the place, what stands is no right statement.
-module _ (text : List ℕ) where
-  fault_at : (x : Reply) → x ≡ reply_of (answer_of (read_cards text)) → x.number ≡ 24 → FirstFault text x.place
-  fault_at x p n = rw p (go (read_cards text) refl (ap (λ (r : Reply). r.number) (sym p) ∙ n))
-    where
-      go : (o : Outcome Deck) → read_cards text ≡ o → (reply_of (answer_of o)).number ≡ 24 → FirstFault text (reply_of (answer_of o)).place
-      go (Got d) e q = absurd (omega (arith, q))
-      go (Refused a) e q = first-fault a q text e
-
-  pub first-fault_reads_cards : (r : DeckReply) → ReadsCards text r → r.number ≡ 24 → FirstFault text r.place
-  first-fault_reads_cards r p n = fault_at (told r) (ap told p ∙ read_told (read_cards text)) n
-
-  pub first-fault_writes_cards : (out : List ℕ) (r : CountReply) (after : List ℕ) → WritesCards text out r after → r.number ≡ 24 → FirstFault text r.place
-  first-fault_writes_cards out r after (p, b) n = go (read_cards text) refl (write_24 (read_cards text) out (ap (λ (x : CountReply). x.number) (sym p) ∙ n))
-    where
-      go : (o : Outcome Deck) → read_cards text ≡ o → ((read_reply o).number ≡ 0 → ⊥) → FirstFault text r.place
-      go o e refused = fault_at (counted r) (ap counted (p ∙ ap (λ (x : Outcome Deck). write_reply x out) e) ∙ write_told o out refused ∙ read_told o ∙ ap (λ (x : Outcome Deck). reply_of (answer_of x)) (sym e)) n
-
-  pub first-fault_reduces_cards : (out : List ℕ) (r : CountReply) (after : List ℕ) → ReducesCards text out r after → r.number ≡ 24 → FirstFault text r.place
-  first-fault_reduces_cards out r after (p, b) n = go (read_cards text) refl (reduce_24 (read_cards text) out (ap (λ (x : CountReply). x.number) (sym p) ∙ n))
-    where
-      go : (o : Outcome Deck) → read_cards text ≡ o → ((read_reply o).number ≡ 0 → ⊥) → FirstFault text r.place
-      go o e refused = fault_at (counted r) (ap counted (p ∙ ap (λ (x : Outcome Deck). reduce_reply x out) e) ∙ reduce_told o out refused ∙ read_told o ∙ ap (λ (x : Outcome Deck). reply_of (answer_of x)) (sym e)) n
 
 -- A text of frames is accepted exactly when it is the frames of an accepted deck; the deck returned is that one.
 pub frames_accepted_exactly_when : (text : List ℕ) (r : DeckReply) → ReadsFrames text r → (r.number ≡ 0) ↔ ((d : Deck) × (text ≡ deck_frames d) × Accepted base d × (r.deck ≡ stored d))
@@ -435,7 +390,7 @@ module _ (deck claim : List ℕ) (r : Reply) (says : ChecksClaim deck claim r) w
   pub claim_20_exactly_when : (r.number ≡ 20) ↔ Read deck claim (λ d m. state_of m 0 among d.inits → ⊥)
   claim_20_exactly_when = (
     λ e.
-        let (d, m, both, is) = read_verdict 20 e no-verdict-number in
+        let (d, m, both, is) = read_verdict 20 e (λ h. omega (arith, h.1)) in
         let (sized, within) = claim_read_sized d.vars claim m both.1 in
         (d, m, both, (refused_20_exactly_when base d m sized within).0 (verdict_20 (verdict d m) (sym (ap (λ (x : Reply). x.number) is) ∙ e))),
     λ (d, m, both, meant).
@@ -449,7 +404,7 @@ module _ (deck claim : List ℕ) (r : Reply) (says : ChecksClaim deck claim r) w
       ↔ Read deck claim (λ d m. (state_of m 0 among d.inits) × (i < m.p + m.c) × ((j : ℕ) → j < i → ClaimStep d m j) × (ClaimStep d m i → ⊥))
   claim_21_exactly_when i = (
     λ (e, f).
-        let (d, m, both, is) = read_verdict 21 e no-verdict-number in
+        let (d, m, both, is) = read_verdict 21 e (λ h. omega (arith, h.1)) in
         let (sized, within) = claim_read_sized d.vars claim m both.1 in
         let step : verdict d m ≡ NoSuchStep i = verdict_21 (verdict d m) (sym (ap (λ (x : Reply). x.number) is) ∙ e) ∙ ap NoSuchStep (sym (ap (λ (x : Reply). x.place) is) ∙ f) in
         (d, m, both, (refused_21_exactly_when base d m sized within i).0 step),
@@ -463,7 +418,7 @@ module _ (deck claim : List ℕ) (r : Reply) (says : ChecksClaim deck claim r) w
   pub claim_22_exactly_when : (r.number ≡ 22) ↔ Read deck claim (λ d m. RunOf d (claim_run m) × Holds (claim_run m) d.property 0)
   claim_22_exactly_when = (
     λ e.
-        let (d, m, both, is) = read_verdict 22 e no-verdict-number in
+        let (d, m, both, is) = read_verdict 22 e (λ h. omega (arith, h.1)) in
         let (sized, within) = claim_read_sized d.vars claim m both.1 in
         (d, m, both, (refused_22_exactly_when base d m sized within).0 (verdict_22 (verdict d m) (sym (ap (λ (x : Reply). x.number) is) ∙ e))),
     λ (d, m, both, meant).

@@ -42,6 +42,9 @@ fn put_heading(out: &mut [u8], at: usize, kind: &[u8], text: u64, n: u64) -> usi
 
 // A place that is no card and no line.
 fn put_place(out: &mut [u8], at: usize, number: u64, place: u64) -> usize {
+    if number == 8 {
+        return put::text(out, at, b"The text ends before a statement that is due.\n");
+    }
     if number == 15 {
         return put::numbered(out, at, b"V", place, b" has no equation.\n");
     }
@@ -129,17 +132,9 @@ fn advised(out: &mut [u8], at: usize, number: u64) -> usize {
     ended(out, end)
 }
 
-// What is at a refusal's place in a text of cards. Statements that are wrong or missing have 23 to 26.
-fn put_cards_at(out: &mut [u8], at: usize, number: u64, place: u64, text: &[u8]) -> usize {
-    if number > 22 {
-        return causes::shown::put_cause(out, at, number, place, text);
-    }
-    put_card_at(out, at, number, place, text)
-}
-
 fn cards_refused(number: u64, which: u64, place: u64, text: &[u8], out: &mut [u8]) -> usize {
     let a = put_frame(out, number, which, place);
-    let b = put_cards_at(out, a, number, place, text);
+    let b = put_card_at(out, a, number, place, text);
     advised(out, b, number)
 }
 

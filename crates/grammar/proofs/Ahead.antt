@@ -27,18 +27,6 @@ module _ (chars : List ℕ) (i end : ℕ) where
   unfolding ahead
   ahead_ink h k n = ap inked (part_next chars i end h (omega arith)) ∙ keep_pass (λ c. not (is_blank c)) (get_or chars i 0) _ (ap not (ne_eqb (get_or chars i 0) 32 n))
 
--- ---- how many are ahead
-
-module _ (chars : List ℕ) (i end count all : ℕ) where
-  pub left_ink : (more : ℕ) → i < end → end ≤ length chars → (get_or chars i 0 ≡ 32 → ⊥) → more ≡ count + 1 → count + length (ahead chars i end) ≡ all → more + length (ahead chars (i + 1) end) ≡ all
-  left_ink more h k n e p = omega (arith, p, e, ap length (ahead_ink chars i end h k n))
-
-  pub left-blank : (same : ℕ) → i < end → end ≤ length chars → get_or chars i 0 ≡ 32 → same ≡ count → count + length (ahead chars i end) ≡ all → same + length (ahead chars (i + 1) end) ≡ all
-  left-blank same h k b e p = rw (e, ahead-blank chars i end h k b) p
-
-  pub left_end : end ≤ i → count + length (ahead chars i end) ≡ all → count ≡ all
-  left_end h p = omega (arith, p, ap length (ahead_end chars i end h))
-
 -- ---- the first place that is no blank
 
 module _ (chars : List ℕ) (at i end : ℕ) where

@@ -1,9 +1,9 @@
-// Readers over the characters of a statement: numbers, words and binary digits, and how many characters are left. Blanks mean nothing.
+// Readers over the characters of a statement: numbers, words and binary digits. Blanks mean nothing.
 // The first `end` of the characters are the fields of the statement's cards, one after the other.
 ghost use Rattle.std.specs.Prelude.{◌≡◌, ◌+◌, ◌-◌, ◌*◌, ◌^◌, ◌<◌, ◌≤◌, length};
 ghost use Rattle.cards.specs.Card.{is_digit};
 ghost use Rattle.cards.specs.Grammar.{digit_value};
-ghost use Rattle.grammar.specs.Ahead.{ahead, Skips, Inks};
+ghost use Rattle.grammar.specs.Ahead.{Skips, Inks};
 ghost use Rattle.grammar.specs.Readers.{Numbers, Words, binary_digit, Binaries};
 
 const BLANK: u8 = b' ';
@@ -52,22 +52,6 @@ pub fn skip(chars: &[u8], at: usize, end: usize) -> usize
         i += 1;
     }
     i
-}
-
-// How many characters that are no blanks stand from `at` on.
-pub fn left(chars: &[u8], at: usize, end: usize) -> usize
-    requires { (at ≤ end) × (end ≤ length chars.now) }
-    ensures { result ≡ length (ahead chars.now at end) }
-{
-    let mut i = at;
-    let mut count = 0;
-    while i < end {
-        if chars[i] != BLANK {
-            count += 1;
-        }
-        i += 1;
-    }
-    count
 }
 
 // The next character that is no blank: mostly the next one.

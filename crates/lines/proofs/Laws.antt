@@ -17,7 +17,7 @@ use Rattle.frames.proofs.HexLaws.{pairs-number, length_pairs}
 use Rattle.decks.specs.declared.Answer.TheVariants.{BadFrame}
 use Rattle.decks.specs.Answers.{Got, Refused, refuse}
 use Rattle.frames.specs.Read.{kind_of, whole_number, count_line}
-use Rattle.lines.specs.Numbers.{number_read, both_zero_lem, count_is}
+use Rattle.lines.specs.Numbers.{number_read, both_zero, count_is}
 use Rattle.lines.specs.declared.Number.{Number}
 use Rattle.lines.specs.declared.Number.TheVariants.{Good, Bad}
 
@@ -126,20 +126,20 @@ byte_zero h l e = go (ltb (digit_of h) 16) refl (ltb (digit_of l) 16) refl
     go false p b q = let z : byte_of h l ≡ 256 = simp (p, byte_of) in absurd (omega (arith, z, e))
 
 module _ (l : List ℕ) (at : ℕ) where
-  zeros_all : at + 4 ≤ length l → both_zero_lem (drop at l) ≡ (eqb (byte_of (get_or l at 0) (get_or l (at + 1) 0)) 0 && eqb (byte_of (get_or l (at + 2) 0) (get_or l (at + 2 + 1) 0)) 0)
-  unfolding both_zero_lem
+  zeros_all : at + 4 ≤ length l → both_zero (drop at l) ≡ (eqb (byte_of (get_or l at 0) (get_or l (at + 1) 0)) 0 && eqb (byte_of (get_or l (at + 2) 0) (get_or l (at + 2 + 1) 0)) 0)
+  unfolding both_zero
   zeros_all h =
       let other : kind_of (drop 2 (drop at l)) ≡ byte_of (get_or l (at + 2) 0) (get_or l (at + 2 + 1) 0) = ap kind_of (drop-drop 2 at l) ∙ the_pair l (at + 2) 0 (omega arith) in
       ap (λ (x : ℕ). eqb x 0 && eqb (kind_of (drop 2 (drop at l))) 0) (the_pair l at 0 (omega arith)) ∙ ap (λ (x : ℕ). eqb (byte_of (get_or l at 0) (get_or l (at + 1) 0)) 0 && eqb x 0) other
 
   -- Two pairs are zero where their characters, in one number, are four `0`.
-  pub zeros_are : (a b c d : ℕ) → at + 4 ≤ length l → (a ≡ get_or l at 0) × (a < 256) → (b ≡ get_or l (at + 1) 0) × (b < 256) → (c ≡ get_or l (at + 2) 0) × (c < 256) → (d ≡ get_or l (at + 3) 0) × (d < 256) → eqb (a + 256 * b + 65536 * (c + 256 * d)) 808464432 ≡ both_zero_lem (drop at l)
+  pub zeros_are : (a b c d : ℕ) → at + 4 ≤ length l → (a ≡ get_or l at 0) × (a < 256) → (b ≡ get_or l (at + 1) 0) × (b < 256) → (c ≡ get_or l (at + 2) 0) × (c < 256) → (d ≡ get_or l (at + 3) 0) × (d < 256) → eqb (a + 256 * b + 65536 * (c + 256 * d)) 808464432 ≡ both_zero (drop at l)
   zeros_are a b c d h ea eb ec ed = sym (whole ∙ go (ℕ_discrete (a + 256 * b + 65536 * (c + 256 * d)) 808464432))
     where
       three : at + 3 ≡ at + 2 + 1
       three = omega arith
 
-      whole : both_zero_lem (drop at l) ≡ (eqb (byte_of a b) 0 && eqb (byte_of c d) 0)
+      whole : both_zero (drop at l) ≡ (eqb (byte_of a b) 0 && eqb (byte_of c d) 0)
       whole =
           zeros_all h
           ∙ ap (λ (x : ℕ). eqb (byte_of x (get_or l (at + 1) 0)) 0 && eqb (byte_of (get_or l (at + 2) 0) (get_or l (at + 2 + 1) 0)) 0) (sym ea.0)
@@ -160,8 +160,8 @@ module _ (l : List ℕ) (at : ℕ) where
           other (no e) f = ap (λ (z : Bool). z && eqb (byte_of c d) 0) (ne_eqb (byte_of a b) 0 e)
 
   -- What is so of two pairs that are both zero.
-  both_zero_lem : both_zero_lem (drop at l) ≡ true → (kind_of (drop at l) ≡ 0) × (kind_of (drop (at + 2) l) ≡ 0)
-  unfolding both_zero_lem
+  both_zero_lem : both_zero (drop at l) ≡ true → (kind_of (drop at l) ≡ 0) × (kind_of (drop (at + 2) l) ≡ 0)
+  unfolding both_zero
   both_zero_lem e = go (eqb (kind_of (drop at l)) 0) refl (eqb (kind_of (drop 2 (drop at l))) 0) refl e
     where
       go : (p : Bool) → eqb (kind_of (drop at l)) 0 ≡ p → (q : Bool) → eqb (kind_of (drop 2 (drop at l))) 0 ≡ q → (p && q) ≡ true → (kind_of (drop at l) ≡ 0) × (kind_of (drop (at + 2) l) ≡ 0)
@@ -222,7 +222,7 @@ module _ (l : List ℕ) (at k i value place : ℕ) where
   number_doubled h m v = omega (arith, number_fits 0 h m v (lit< tt))
 
 -- Two pairs of zeros at the front of a number are passed over.
-pub zeros_passed : (l : List ℕ) (at k i : ℕ) (b : Bool) → i + 1 < k → NumberSofar l at k i 0 (at + 2 * i) → b ≡ both_zero_lem (drop (at + 2 * i) l) → not b ≡ false → NumberSofar l at k (i + 2) 0 (at + 2 * (i + 2))
+pub zeros_passed : (l : List ℕ) (at k i : ℕ) (b : Bool) → i + 1 < k → NumberSofar l at k i 0 (at + 2 * i) → b ≡ both_zero (drop (at + 2 * i) l) → not b ≡ false → NumberSofar l at k (i + 2) 0 (at + 2 * (i + 2))
 zeros_passed l at k i b h e p q =
     let z = both_zero_lem l (at + 2 * i) (sym p ∙ not_false b q) in
     let first : number k (drop at l) ≡ number_from (k - (i + 1)) 0 (drop (at + 2 * i + 2) l) = number_next l at k i 0 (at + 2 * i) 0 (omega arith) e (sym z.0) (lit< tt) in

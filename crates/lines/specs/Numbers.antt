@@ -12,8 +12,8 @@ number_read none = Bad
 number_read (some n) = Good n
 
 -- Whether the first two pairs are both `00`.
-unfoldable pub both_zero_lem : List ℕ → Bool
-both_zero_lem cs = eqb (kind_of cs) 0 && eqb (kind_of (drop 2 cs)) 0
+unfoldable pub both_zero : List ℕ → Bool
+both_zero cs = eqb (kind_of cs) 0 && eqb (kind_of (drop 2 cs)) 0
 
 -- Whether the two bytes of a 05 or 15 are the number of frames before line n.
 unfoldable pub count_is : ℕ → List ℕ → Bool

@@ -2,7 +2,7 @@
 ghost use Rattle.std.specs.Prelude.{◌≡◌, ◌+◌, ◌-◌, ◌*◌, ◌<◌, ◌≤◌, length, drop};
 ghost use Rattle.frames.specs.Hex.{digit_of, number_from, number};
 ghost use Rattle.frames.specs.Read.{kind_of};
-ghost use Rattle.lines.specs.Numbers.{number_read, both_zero_lem, count_is};
+ghost use Rattle.lines.specs.Numbers.{number_read, both_zero, count_is};
 
 // What stands where no pair is.
 pub const NO_PAIR: u64 = 256;
@@ -75,7 +75,7 @@ pub fn pair_at(line: &[u8], at: usize) -> u64
 // Whether the two pairs that begin at a place of the line are both zero. All four characters are looked at in one comparison.
 fn zeros(line: &[u8], at: usize) -> bool
     requires { at + 4 ≤ length line.now }
-    ensures { result ≡ both_zero_lem (drop at line.now) }
+    ensures { result ≡ both_zero (drop at line.now) }
 {
     let one = wide(line[at]) + 256 * wide(line[at + 1]);
     let other = wide(line[at + 2]) + 256 * wide(line[at + 3]);

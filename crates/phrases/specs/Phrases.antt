@@ -6,7 +6,7 @@ use Rattle.lists.specs.Lists.{chosen, splice}
 use Rattle.logic.specs.Expressions.{Expr, Op2, nodes, code, const_node, node1, node2}
 use Rattle.logic.specs.Decks.{base}
 use Rattle.decks.specs.declared.Answer.{Answer}
-use Rattle.decks.specs.declared.Answer.TheVariants.{BadExpression, TooDeep}
+use Rattle.decks.specs.declared.Answer.TheVariants.{NotDue, TooDeep}
 use Rattle.decks.specs.Answers.{Outcome, Got, Refused}
 use Rattle.decks.specs.Readings.{Reading, Whole, Wrong, Deep}
 use Rattle.cards.specs.Grammar.{Sign, Constant, Variable, Before, Bracket, NoSign, past, past_joint, read_expr}
@@ -74,16 +74,16 @@ rest_of (Whole e rest) = rest
 rest_of (Wrong rest) = rest
 rest_of (Deep rest) = rest
 
--- The answer for a statement of card n that the number of a stop stands for: 24 with its place, or 11.
-abbrev pub refusal_of : ℕ → ℕ → ℕ → Answer
-refusal_of n place stop = chosen (eqb stop 1) (BadExpression place) (TooDeep n)
+-- The answer for a statement of card n that the number of a stop stands for.
+abbrev pub refusal_of : ℕ → ℕ → Answer
+refusal_of n stop = chosen (eqb stop 1) (NotDue n) (TooDeep n)
 
--- r and the array after it say what `whole_expr` says, where this is the place at which the reading stopped.
-abbrev pub TellsWhole : ℕ → ℕ → Outcome Expr → List ℕ → Phrase → List ℕ → Type 0
-TellsWhole n place (Got e) out r after = (r.stop ≡ 0) × (r.used ≡ nodes e) × (after ≡ splice 0 (code e) out)
-TellsWhole n place (Refused a) out r after = ((r.stop ≡ 0 → ⊥) × (refusal_of n place r.stop ≡ a))
+-- r and the array after it say what `whole_expr` says.
+abbrev pub TellsWhole : ℕ → Outcome Expr → List ℕ → Phrase → List ℕ → Type 0
+TellsWhole n (Got e) out r after = (r.stop ≡ 0) × (r.used ≡ nodes e) × (after ≡ splice 0 (code e) out)
+TellsWhole n (Refused a) out r after = ((r.stop ≡ 0 → ⊥) × (refusal_of n r.stop ≡ a))
 
--- The expression that fills the rest of the statement from place i on, of whichever card the statement is and wherever its characters stand.
+-- The expression that fills the rest of the statement from place i on, of whichever card the statement is.
 pub record Fills (chars : List ℕ) (i end : ℕ) (out : List ℕ) (r : Phrase) (after : List ℕ) : Type 0 where
   pub from : i ≤ r.next
   pub within : r.next ≤ end
@@ -91,4 +91,4 @@ pub record Fills (chars : List ℕ) (i end : ℕ) (out : List ℕ) (r : Phrase) 
   pub long : length after ≡ length out
   pub settled : Settled chars end r.next
   pub rest : ahead chars r.next end ≡ rest_of (read_expr base.levels (ahead chars i end))
-  pub told : (n : ℕ) (place : ℕ → ℕ) → TellsWhole n (place (length (ahead chars r.next end))) (whole_expr n place (ahead chars i end)) out r after
+  pub told : (n : ℕ) → TellsWhole n (whole_expr n (ahead chars i end)) out r after

@@ -4,7 +4,7 @@ ghost use Rattle.cards.specs.Grammar.{sign_of, joint_of, read_number, variable, 
 ghost use Rattle.grammar.specs.Ahead.{ahead};
 ghost use Rattle.phrases.specs.Phrases.{mark_of, joint_mark, Reads, Joins, Closes, Fills};
 
-// How a reading stopped: a whole expression, a character that cannot go on (24), or one that begins an expression at level 33 (11).
+// How a reading stopped: a whole expression, a character that cannot go on (8), or one that begins an expression at level 33 (11).
 pub const WHOLE: usize = 0;
 
 pub const WRONG: usize = 1;

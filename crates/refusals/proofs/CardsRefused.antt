@@ -10,7 +10,7 @@ use lib.ListN.{length}
 use Rattle.lists.specs.Lists.{keep}
 use Rattle.lists.proofs.Laws.{some_find, find_some, among_keep, keep_among}
 use Rattle.logic.specs.Decks.{Equation, Deck, base}
-use Rattle.decks.specs.declared.Answer.TheVariants.{NoEquation, NoStatement}
+use Rattle.decks.specs.declared.Answer.TheVariants.{NotDue, NoEquation}
 use Rattle.decks.specs.Answers.{Outcome, Refused}
 use Rattle.decks.specs.Readings.{walk, complete}
 use Rattle.cards.specs.Card.{cards_of, in_form}
@@ -76,25 +76,25 @@ module _ (back : List Statement) (so : Sofar) (t : Typing back so) where
     λ h. (without-typed so.typed v).1 (behind_is back so t (λ (s : Sofar). (v < s.typed.count) × (HasEquation s.typed.equations v → ⊥)) h),
   )
 
-  end_meets : Meets (Try (Missing back) NoStatement (rising (Lacking back) NoEquation base.variables 0)) (λ d. d ≡ deck_of so.typed) (cards_end so)
+  end_meets : Meets (Try (Missing back) (NotDue 0) (rising (Lacking back) NoEquation base.variables 0)) (λ d. d ≡ deck_of so.typed) (cards_end so)
   unfolding cards_end deck_of
   end_meets = go so.due refl
     where
       M : Outcome Deck → Type 0
-      M = Meets (Try (Missing back) NoStatement (rising (Lacking back) NoEquation base.variables 0)) (λ d. d ≡ deck_of so.typed)
+      M = Meets (Try (Missing back) (NotDue 0) (rising (Lacking back) NoEquation base.variables 0)) (λ d. d ≡ deck_of so.typed)
 
-      early : (so.due ≡ DueNone → ⊥) → M (Refused NoStatement)
+      early : (so.due ≡ DueNone → ⊥) → M (Refused (NotDue 0))
       early n = meets_here _ _ _ _ (so, t, n)
 
       small : (deck_of so.typed).vars < 2 ^ base.variables
       small = first-vars-most so.typed.count base.variables (typing-count back so t)
 
       go : (u : Due) → so.due ≡ u → M (elim u [
-        | DueVars ↦ Refused NoStatement
-        | DueInit ↦ Refused NoStatement
-        | DueAny ↦ Refused NoStatement
-        | DueEquation ↦ Refused NoStatement
-        | DueEnd ↦ Refused NoStatement
+        | DueVars ↦ Refused (NotDue 0)
+        | DueInit ↦ Refused (NotDue 0)
+        | DueAny ↦ Refused (NotDue 0)
+        | DueEquation ↦ Refused (NotDue 0)
+        | DueEnd ↦ Refused (NotDue 0)
         | DueNone ↦ complete (deck_of so.typed)
       ])
       go DueVars e = early (λ f. let z : DueVars ≡ DueNone = sym e ∙ f in let z : ◌≡◌ {A = ℕ} 0 1 = cc in omega arith)

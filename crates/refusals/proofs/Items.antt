@@ -1,33 +1,31 @@
 -- What a statement says is read exactly where its characters spell it: the reader of a statement, its judgement apart.
-use mathlib.Core.Path.{◌≡◌, refl, sym, ap, ◌∙◌, subst}
+use mathlib.Core.Path.{◌≡◌, refl, sym, ap, ◌∙◌}
 use mathlib.Core.Logic.{◌⊎◌, inl, inr, ⊎_elim}
-use mathlib.Core.Bool.{Bool, true, false, not, ◌||◌}
-use mathlib.Core.List.{List, [], ◌∷◌, ◌++◌, append_assoc, append-nil}
+use mathlib.Core.Bool.{Bool, true, false, not}
+use mathlib.Core.List.{List, [], ◌∷◌, ◌++◌, append-nil}
 use mathlib.Core.Option.{Option, none, some}
-use Prim.Native.Nat.{ℕ, zero, suc, ◌+◌, ◌*◌, ◌^◌, ◌<◌}
+use Prim.Native.Nat.{ℕ, ◌+◌, ◌<◌}
 use native.Mathlib.Omega.{arith}
-use lib.Dec.{ltb, eqb}
+use lib.Dec.{ltb}
 use lib.ListN.{length}
 use Rattle.lists.specs.Texts.{bytes}
 use Rattle.sets.specs.Sets.{inside}
-use Rattle.logic.specs.Expressions.{Expr, nodes, levels, written, decimal, spelling, Below}
+use Rattle.logic.specs.Expressions.{Expr, nodes, levels, written, decimal, spelling}
 use Rattle.logic.specs.Decks.{base}
 use Rattle.logic.proofs.Spelling.{NoDigit}
 use Rattle.decks.specs.declared.Answer.{Answer}
-use Rattle.decks.specs.declared.Answer.TheVariants.{TooDeep, Outside, ManyInitials, ManyNodes, NotDue, BadExpression, BadInitial}
+use Rattle.decks.specs.declared.Answer.TheVariants.{NotDue, TooDeep, Outside, ManyInitials, ManyNodes}
 use Rattle.decks.specs.Readings.{Reading, Whole, Wrong, Deep}
 use Rattle.decks.specs.Answers.{Outcome, Got, Refused, refuse, afterwards}
-use Rattle.cards.specs.Grammar.{Counted, Number, NoNumber, digit_value, read_number, read_expr}
+use Rattle.cards.specs.Grammar.{Counted, Number, NoNumber, read_number, read_expr}
 use Rattle.cards.specs.Typed.{Typed, binary_from, equation_spelt, first_vars}
 use Rattle.cards.specs.Read.{behind, Due, DueVars, DueInit, DueAny, DueEquation, DueEnd, DueNone, Sofar, whole_expr, whole_number, vars_statement, read_binary, init_statement, with_equation, equation_statement, prop_statement, end_statement, equation_or_prop, due_statement}
 use Rattle.decks.proofs.Outcomes.{refused_got}
 use Rattle.cards.proofs.GrammarLaws.{decimal_read, read_decimal}
-use Rattle.cards.proofs.WordLaws.{none_some, word_behind, behind_word, whole-number-spelt, whole-number_got, whole_expr_spelt, whole_expr_got, binary_read, read_binary_lem, digit_binary, binary_next}
+use Rattle.cards.proofs.WordLaws.{word_behind, behind_word, whole-number-spelt, whole-number_got, whole_expr_spelt, whole_expr_got, binary_read, read_binary_lem}
 use Rattle.cards.specs.Deep.{TooFar}
-use Rattle.cards.specs.Right.{Right, Headed, FaultAt}
 use Rattle.cards.proofs.ExactlyWhen.{too_deep_exactly}
-use Rattle.cards.proofs.FirstFault.{fault_wrong, fault-whole, fault_unique, right_no_fault}
-use Rattle.refusals.specs.StatementFaults.{Item, Count, Initial, Equals, Property, Ending, EquationDue, InitialDue, Permits, SpellsItem, DeepIn, BinaryDigits, added}
+use Rattle.refusals.specs.StatementFaults.{Item, Count, Initial, Equals, Property, Ending, EquationDue, Permits, SpellsItem, DeepIn, added}
 
 -- ---- the reader of a statement, its judgement apart
 
@@ -38,19 +36,19 @@ abbrev vars_item : ℕ → List ℕ → Outcome Item
 vars_item n cs = afterwards (whole_number n base.variables cs) (λ v. Got (Count v))
 
 abbrev state_item : ℕ → Option ℕ → Outcome Item
-state_item n none = Refused (BadInitial n)
+state_item n none = Refused (NotDue n)
 state_item n (some s) = Got (Initial s)
 
-abbrev right_item : ℕ → (ℕ → ℕ) → ℕ → Option (List ℕ) → Outcome Item
-right_item n place v none = Refused (NotDue n)
-right_item n place v (some es) = afterwards (whole_expr n place es) (λ e. Got (Equals (record { left = v; right = e })))
+abbrev right_item : ℕ → ℕ → Option (List ℕ) → Outcome Item
+right_item n v none = Refused (NotDue n)
+right_item n v (some es) = afterwards (whole_expr n es) (λ e. Got (Equals (record { left = v; right = e })))
 
-abbrev left_item : ℕ → (ℕ → ℕ) → Counted → Outcome Item
-left_item n place (NoNumber rs) = Refused (NotDue n)
-left_item n place (Number v rs) = right_item n place v (behind (bytes "=") rs)
+abbrev left_item : ℕ → Counted → Outcome Item
+left_item n (NoNumber rs) = Refused (NotDue n)
+left_item n (Number v rs) = right_item n v (behind (bytes "=") rs)
 
-abbrev prop_item : ℕ → (ℕ → ℕ) → List ℕ → Outcome Item
-prop_item n place cs = afterwards (whole_expr n place cs) (λ e. Got (Property e))
+abbrev prop_item : ℕ → List ℕ → Outcome Item
+prop_item n cs = afterwards (whole_expr n cs) (λ e. Got (Property e))
 
 abbrev end_item : ℕ → List ℕ → Outcome Item
 end_item n [] = Got Ending
@@ -59,16 +57,16 @@ end_item n (c ∷ cs) = Refused (NotDue n)
 abbrev init_item : ℕ → ℕ → List ℕ → Outcome Item
 init_item k n cs = state_item n (read_binary 0 k 0 cs)
 
-open_item : ℕ → (ℕ → ℕ) → List ℕ → Outcome Item
-open_item n place cs = word (bytes "V") cs (λ rs. left_item n place (read_number rs)) (word (bytes "PROP") cs (prop_item n place) (Refused (NotDue n)))
+open_item : ℕ → List ℕ → Outcome Item
+open_item n cs = word (bytes "V") cs (λ rs. left_item n (read_number rs)) (word (bytes "PROP") cs (prop_item n) (Refused (NotDue n)))
 
-pub item_read : Due → ℕ → ℕ → (ℕ → ℕ) → List ℕ → Outcome Item
-item_read DueVars k n place cs = word (bytes "VARS") cs (vars_item n) (Refused (NotDue n))
-item_read DueInit k n place cs = word (bytes "INIT") cs (init_item k n) (Refused (NotDue n))
-item_read DueAny k n place cs = word (bytes "INIT") cs (init_item k n) (open_item n place cs)
-item_read DueEquation k n place cs = open_item n place cs
-item_read DueEnd k n place cs = word (bytes "END") cs (end_item n) (Refused (NotDue n))
-item_read DueNone k n place cs = Refused (NotDue n)
+pub item_read : Due → ℕ → ℕ → List ℕ → Outcome Item
+item_read DueVars k n cs = word (bytes "VARS") cs (vars_item n) (Refused (NotDue n))
+item_read DueInit k n cs = word (bytes "INIT") cs (init_item k n) (Refused (NotDue n))
+item_read DueAny k n cs = word (bytes "INIT") cs (init_item k n) (open_item n cs)
+item_read DueEquation k n cs = open_item n cs
+item_read DueEnd k n cs = word (bytes "END") cs (end_item n) (Refused (NotDue n))
+item_read DueNone k n cs = Refused (NotDue n)
 
 -- The judgement: 9, 10, 12, 13, 14.
 abbrev pub judged : ℕ → Typed → Item → Outcome Sofar
@@ -81,7 +79,7 @@ judged n t Ending = Got (added t Ending)
 
 -- ---- a statement is read as what it says, judged
 
-module _ (n : ℕ) (place : ℕ → ℕ) (t : Typed) where
+module _ (n : ℕ) (t : Typed) where
   abbrev Judges : Outcome Sofar → Outcome Item → Type 0
   Judges r s = r ≡ afterwards s (judged n t)
 
@@ -103,41 +101,41 @@ module _ (n : ℕ) (place : ℕ → ℕ) (t : Typed) where
   init_judges cs = go (read_binary 0 t.count 0 cs)
     where
       go : (r : Option ℕ) → Judges (elim r [
-        | none ↦ Refused (BadInitial n)
+        | none ↦ Refused (NotDue n)
         | some s ↦ refuse (ltb base.initials (length t.inits + 1)) (ManyInitials n) (Got (added t (Initial s)))
       ]) (state_item n r)
       go none = refl
       go (some s) = refl
 
-  equation_judges : (cs : List ℕ) → Judges (equation_statement n place cs t) (left_item n place (read_number cs))
+  equation_judges : (cs : List ℕ) → Judges (equation_statement n cs t) (left_item n (read_number cs))
   unfolding equation_statement
   equation_judges cs = left (read_number cs)
     where
-      right : (v : ℕ) (b : Option (List ℕ)) → Judges (elim b [ none ↦ Refused (NotDue n) | some es ↦ afterwards (whole_expr n place es) (λ e. with_equation n t (record { left = v; right = e })) ]) (right_item n place v b)
+      right : (v : ℕ) (b : Option (List ℕ)) → Judges (elim b [ none ↦ Refused (NotDue n) | some es ↦ afterwards (whole_expr n es) (λ e. with_equation n t (record { left = v; right = e })) ]) (right_item n v b)
       right v none = refl
-      right v (some es) = item_judges (whole_expr n place es) (λ e. with_equation n t (record { left = v; right = e })) (λ e. Equals (record { left = v; right = e })) (λ e. refl)
+      right v (some es) = item_judges (whole_expr n es) (λ e. with_equation n t (record { left = v; right = e })) (λ e. Equals (record { left = v; right = e })) (λ e. refl)
 
       left : (c : Counted) → Judges (elim c [
         | NoNumber rs ↦ Refused (NotDue n)
-        | Number v rs ↦ elim (behind (bytes "=") rs) [ none ↦ Refused (NotDue n) | some es ↦ afterwards (whole_expr n place es) (λ e. with_equation n t (record { left = v; right = e })) ]
-      ]) (left_item n place c)
+        | Number v rs ↦ elim (behind (bytes "=") rs) [ none ↦ Refused (NotDue n) | some es ↦ afterwards (whole_expr n es) (λ e. with_equation n t (record { left = v; right = e })) ]
+      ]) (left_item n c)
       left (NoNumber rs) = refl
       left (Number v rs) = right v (behind (bytes "=") rs)
 
-  prop_judges : (cs : List ℕ) → Judges (prop_statement n place cs t) (prop_item n place cs)
+  prop_judges : (cs : List ℕ) → Judges (prop_statement n cs t) (prop_item n cs)
   unfolding prop_statement
-  prop_judges cs = item_judges (whole_expr n place cs) _ Property (λ e. refl)
+  prop_judges cs = item_judges (whole_expr n cs) _ Property (λ e. refl)
 
   end_judges : (cs : List ℕ) → Judges (end_statement n cs t) (end_item n cs)
   unfolding end_statement
   end_judges [] = refl
   end_judges (c ∷ cs) = refl
 
-  open_judges : (cs : List ℕ) → Judges (equation_or_prop n place cs t) (open_item n place cs)
+  open_judges : (cs : List ℕ) → Judges (equation_or_prop n cs t) (open_item n cs)
   unfolding equation_or_prop open_item
   open_judges cs = word_judges (behind (bytes "V") cs) _ _ _ _ equation_judges (word_judges (behind (bytes "PROP") cs) _ _ _ _ prop_judges refl)
 
-  pub due_judges : (u : Due) (cs : List ℕ) → due_statement u n place cs t ≡ afterwards (item_read u t.count n place cs) (judged n t)
+  pub due_judges : (u : Due) (cs : List ℕ) → due_statement u n cs t ≡ afterwards (item_read u t.count n cs) (judged n t)
   unfolding due_statement item_read
   due_judges DueVars cs = word_judges (behind (bytes "VARS") cs) _ _ _ _ vars_judges refl
   due_judges DueInit cs = word_judges (behind (bytes "INIT") cs) _ _ _ _ init_judges refl
@@ -171,78 +169,58 @@ unfolding bytes
 equals_no_digit cs = λ d. omega arith
 
 -- Where an equation or the property is due, what does not begin with `INIT` is read as one of them.
-open_read : (u : Due) (k n : ℕ) (place : ℕ → ℕ) (cs : List ℕ) → EquationDue u → behind (bytes "INIT") cs ≡ none → item_read u k n place cs ≡ open_item n place cs
+open_read : (u : Due) (k n : ℕ) (cs : List ℕ) → EquationDue u → behind (bytes "INIT") cs ≡ none → item_read u k n cs ≡ open_item n cs
 unfolding item_read
-open_read u k n place cs (inl e) h = ap (λ (w : Due). item_read w k n place cs) e ∙ word_other (bytes "INIT") cs _ _ h
-open_read u k n place cs (inr e) h = ap (λ (w : Due). item_read w k n place cs) e
+open_read u k n cs (inl e) h = ap (λ (w : Due). item_read w k n cs) e ∙ word_other (bytes "INIT") cs _ _ h
+open_read u k n cs (inr e) h = ap (λ (w : Due). item_read w k n cs) e
 
 -- `Vi=` is read, and then the expression decides.
-open_equation : (n v : ℕ) (place : ℕ → ℕ) (es : List ℕ) → v < 100 → open_item n place (bytes "V" ++ (decimal v ++ (bytes "=" ++ es))) ≡ afterwards (whole_expr n place es) (λ e. Got (Equals (record { left = v; right = e })))
+open_equation : (n v : ℕ) (es : List ℕ) → v < 100 → open_item n (bytes "V" ++ (decimal v ++ (bytes "=" ++ es))) ≡ afterwards (whole_expr n es) (λ e. Got (Equals (record { left = v; right = e })))
 unfolding open_item
-open_equation n v place es h =
+open_equation n v es h =
     word_found (bytes "V") (decimal v ++ (bytes "=" ++ es)) _ _
-    ∙ ap (left_item n place) (decimal_read v (bytes "=" ++ es) h (equals_no_digit es))
-    ∙ ap (right_item n place v) (word_behind (bytes "=") es)
+    ∙ ap (left_item n) (decimal_read v (bytes "=" ++ es) h (equals_no_digit es))
+    ∙ ap (right_item n v) (word_behind (bytes "=") es)
 
 -- So is `PROP`.
-open_property : (n : ℕ) (place : ℕ → ℕ) (es : List ℕ) → open_item n place (bytes "PROP" ++ es) ≡ prop_item n place es
+open_property : (n : ℕ) (es : List ℕ) → open_item n (bytes "PROP" ++ es) ≡ prop_item n es
 unfolding open_item
-open_property n place es = word_other (bytes "V") (bytes "PROP" ++ es) _ _ (no_equation_prop es) ∙ word_found (bytes "PROP") es _ _
+open_property n es = word_other (bytes "V") (bytes "PROP" ++ es) _ _ (no_equation_prop es) ∙ word_found (bytes "PROP") es _ _
 
-pub spelt_item : (u : Due) (k n : ℕ) (place : ℕ → ℕ) (cs : List ℕ) (i : Item) → Permits u i → SpellsItem k cs i → item_read u k n place cs ≡ Got i
+pub spelt_item : (u : Due) (k n : ℕ) (cs : List ℕ) (i : Item) → Permits u i → SpellsItem k cs i → item_read u k n cs ≡ Got i
 unfolding item_read
-spelt_item u k n place cs (Count v) p (e, h) =
-    ap (λ (w : Due). item_read w k n place cs) p
-    ∙ ap (item_read DueVars k n place) e
+spelt_item u k n cs (Count v) p (e, h) =
+    ap (λ (w : Due). item_read w k n cs) p
+    ∙ ap (item_read DueVars k n) e
     ∙ word_found (bytes "VARS") (decimal v) _ _
     ∙ ap (λ (r : Outcome ℕ). afterwards r (λ v. Got (Count v))) (whole-number-spelt n base.variables v h (omega arith))
-spelt_item u k n place cs (Initial s) (inl p) (e, h) =
-    ap (λ (w : Due). item_read w k n place cs) p ∙ ap (item_read DueInit k n place) e ∙ word_found (bytes "INIT") (binary_from 0 k s) _ _ ∙ ap (state_item n) (binary_read k s h)
-spelt_item u k n place cs (Initial s) (inr p) (e, h) =
-    ap (λ (w : Due). item_read w k n place cs) p ∙ ap (item_read DueAny k n place) e ∙ word_found (bytes "INIT") (binary_from 0 k s) _ _ ∙ ap (state_item n) (binary_read k s h)
-spelt_item u k n place cs (Equals q) p (e, h, l, b) =
-    ap (item_read u k n place) e
-    ∙ open_read u k n place (equation_spelt q) p (no_init_equation _)
-    ∙ open_equation n q.left place (spelling q.right) h
-    ∙ ap (λ (r : Outcome Expr). afterwards r (λ e. Got (Equals (record { left = q.left; right = e })))) (whole_expr_spelt n place q.right l b)
-spelt_item u k n place cs (Property x) p (e, l, b) =
-    ap (item_read u k n place) e
-    ∙ open_read u k n place (bytes "PROP" ++ spelling x) p (no_init_prop _)
-    ∙ open_property n place (spelling x)
-    ∙ ap (λ (r : Outcome Expr). afterwards r (λ e. Got (Property e))) (whole_expr_spelt n place x l b)
-spelt_item u k n place cs Ending p e = ap (λ (w : Due). item_read w k n place cs) p ∙ ap (item_read DueEnd k n place) (e ∙ sym (append-nil (bytes "END"))) ∙ word_found (bytes "END") [] _ _
+spelt_item u k n cs (Initial s) (inl p) (e, h) =
+    ap (λ (w : Due). item_read w k n cs) p ∙ ap (item_read DueInit k n) e ∙ word_found (bytes "INIT") (binary_from 0 k s) _ _ ∙ ap (state_item n) (binary_read k s h)
+spelt_item u k n cs (Initial s) (inr p) (e, h) =
+    ap (λ (w : Due). item_read w k n cs) p ∙ ap (item_read DueAny k n) e ∙ word_found (bytes "INIT") (binary_from 0 k s) _ _ ∙ ap (state_item n) (binary_read k s h)
+spelt_item u k n cs (Equals q) p (e, h, l, b) =
+    ap (item_read u k n) e
+    ∙ open_read u k n (equation_spelt q) p (no_init_equation _)
+    ∙ open_equation n q.left (spelling q.right) h
+    ∙ ap (λ (r : Outcome Expr). afterwards r (λ e. Got (Equals (record { left = q.left; right = e })))) (whole_expr_spelt n q.right l b)
+spelt_item u k n cs (Property x) p (e, l, b) =
+    ap (item_read u k n) e
+    ∙ open_read u k n (bytes "PROP" ++ spelling x) p (no_init_prop _)
+    ∙ open_property n (spelling x)
+    ∙ ap (λ (r : Outcome Expr). afterwards r (λ e. Got (Property e))) (whole_expr_spelt n x l b)
+spelt_item u k n cs Ending p e = ap (λ (w : Due). item_read w k n cs) p ∙ ap (item_read DueEnd k n) (e ∙ sym (append-nil (bytes "END"))) ∙ word_found (bytes "END") [] _ _
 
-pub deep_item : (u : Due) (k n : ℕ) (place : ℕ → ℕ) (cs : List ℕ) → DeepIn u cs → item_read u k n place cs ≡ Refused (TooDeep n)
-deep_item u k n place cs (p, inl (v, es, h, e, far)) =
-    ap (item_read u k n place) e
-    ∙ open_read u k n place (bytes "V" ++ (decimal v ++ (bytes "=" ++ es))) p (no_init_equation _)
-    ∙ open_equation n v place es h
-    ∙ ap (λ (r : Outcome Expr). afterwards r (λ e. Got (Equals (record { left = v; right = e })))) ((too_deep_exactly n place es).1 far)
-deep_item u k n place cs (p, inr (es, e, far)) =
-    ap (item_read u k n place) e
-    ∙ open_read u k n place (bytes "PROP" ++ es) p (no_init_prop _)
-    ∙ open_property n place es
-    ∙ ap (λ (r : Outcome Expr). afterwards r (λ e. Got (Property e))) ((too_deep_exactly n place es).1 far)
-
--- ---- binary digits
-
-binary_digits : (i k s : ℕ) (cs : List ℕ) (x : ℕ) → read_binary i k s cs ≡ some x → BinaryDigits k cs
-unfolding read_binary
-binary_digits i zero s [] x e = (refl, tt)
-binary_digits i zero s (c ∷ cs) x e = none_some e
-binary_digits i (suc k) s [] x e = none_some e
-binary_digits i (suc k) s (c ∷ cs) x e = go (eqb c 48 || eqb c 49) refl (binary_digits (suc i) k (s + digit_value c * 2 ^ i) cs x)
-  where
-    go : (t : Bool) → (eqb c 48 || eqb c 49) ≡ t → (read_binary (suc i) k (s + digit_value c * 2 ^ i) cs ≡ some x → BinaryDigits k cs) → BinaryDigits (suc k) (c ∷ cs)
-    go true p f = let (l, d) = f (simp (p, read_binary) at e) in (ap suc l, (digit_binary c p, d))
-    go false p f = none_some (simp (p, read_binary) at e)
-
-no_binary : (i k s : ℕ) (cs : List ℕ) → read_binary i k s cs ≡ none → BinaryDigits k cs → ⊥
-unfolding read_binary
-no_binary i zero s [] e (l, d) = none_some (sym e)
-no_binary i zero s (c ∷ cs) e (l, d) = omega (arith, l)
-no_binary i (suc k) s [] e (l, d) = omega (arith, l)
-no_binary i (suc k) s (c ∷ cs) e (l, (b, d)) = no_binary (suc i) k (s + digit_value c * 2 ^ i) cs (sym (binary_next i k s c cs b) ∙ e) (omega (arith, l), d)
+pub deep_item : (u : Due) (k n : ℕ) (cs : List ℕ) → DeepIn u cs → item_read u k n cs ≡ Refused (TooDeep n)
+deep_item u k n cs (p, inl (v, es, h, e, far)) =
+    ap (item_read u k n) e
+    ∙ open_read u k n (bytes "V" ++ (decimal v ++ (bytes "=" ++ es))) p (no_init_equation _)
+    ∙ open_equation n v es h
+    ∙ ap (λ (r : Outcome Expr). afterwards r (λ e. Got (Equals (record { left = v; right = e })))) ((too_deep_exactly n es).1 far)
+deep_item u k n cs (p, inr (es, e, far)) =
+    ap (item_read u k n) e
+    ∙ open_read u k n (bytes "PROP" ++ es) p (no_init_prop _)
+    ∙ open_property n es
+    ∙ ap (λ (r : Outcome Expr). afterwards r (λ e. Got (Property e))) ((too_deep_exactly n es).1 far)
 
 -- ---- read, then spelt
 
@@ -259,39 +237,21 @@ number_refused n most cs a h = go (read_number cs) h
     go (Number v (r ∷ rs)) e = cc
     go (NoNumber rs) e = cc
 
--- The expression after a head is refused with 24, at the first fault, or with 11.
-expr_refused : (n : ℕ) (place : ℕ → ℕ) (head cs : List ℕ) (a : Answer)
-    → Headed head
-    → whole_expr n place cs ≡ Refused a
-    → ((j : ℕ) × (a ≡ BadExpression (place j)) × FaultAt (head ++ cs) j) ⊎ ((a ≡ TooDeep n) × TooFar cs)
+expr_refused : (n : ℕ) (cs : List ℕ) (a : Answer) → whole_expr n cs ≡ Refused a → (a ≡ NotDue n) ⊎ ((a ≡ TooDeep n) × TooFar cs)
 unfolding whole_expr
-expr_refused n place head cs a w h = go (read_expr base.levels cs) refl h
+expr_refused n cs a h = ⊎_elim inl (λ e. inr (e, (too_deep_exactly n cs).0 (h ∙ ap Refused e))) (go (read_expr base.levels cs) h)
   where
-    go : (r : Reading)
-        → read_expr base.levels cs ≡ r
-        → ◌≡◌ {A = Outcome Expr} (elim r [
-          | Whole e [] ↦ Got e
-          | Whole e (r ∷ rs) ↦ Refused (BadExpression (place (length (r ∷ rs))))
-          | Wrong rs ↦ Refused (BadExpression (place (length rs)))
-          | Deep rs ↦ Refused (TooDeep n)
-        ]) (Refused a)
-        → ((j : ℕ) × (a ≡ BadExpression (place j)) × FaultAt (head ++ cs) j) ⊎ ((a ≡ TooDeep n) × TooFar cs)
-    go (Whole e []) p q = refused_got (sym q)
-    go (Whole e (r ∷ rs)) p q = inl (length (r ∷ rs), cc, fault-whole head cs e r rs w p)
-    go (Wrong rs) p q = inl (length rs, cc, fault_wrong head cs rs w p)
-    go (Deep rs) p q = let e : a ≡ TooDeep n = cc in inr (e, (too_deep_exactly n place cs).0 (h ∙ ap Refused e))
+    go : (r : Reading) → ◌≡◌ {A = Outcome Expr} (elim r [ Whole e [] ↦ Got e | Whole e (r ∷ rs) ↦ Refused (NotDue n) | Wrong rs ↦ Refused (NotDue n) | Deep rs ↦ Refused (TooDeep n) ]) (Refused a) → (a ≡ NotDue n) ⊎ (a ≡ TooDeep n)
+    go (Whole e []) q = refused_got (sym q)
+    go (Whole e (r ∷ rs)) q = inl cc
+    go (Wrong rs) q = inl cc
+    go (Deep rs) q = inr cc
 
-head_equation : (v : ℕ) (es : List ℕ) → (bytes "V" ++ (decimal v ++ bytes "=")) ++ es ≡ bytes "V" ++ (decimal v ++ (bytes "=" ++ es))
-head_equation v es = append_assoc (bytes "V") (decimal v ++ bytes "=") es ∙ ap (λ (l : List ℕ). bytes "V" ++ l) (append_assoc (decimal v) (bytes "=") es)
-
-module _ (u : Due) (k n : ℕ) (place : ℕ → ℕ) (cs : List ℕ) where
-  -- What the statement comes to: what it spells, or 23; 25, 24 or 11 where they are met.
+module _ (u : Due) (k n : ℕ) (cs : List ℕ) where
+  -- What the statement comes to: what it spells, or 8, or 11 where it is met.
   abbrev pub Comes : Outcome Item → Type 0
   Comes (Got i) = Permits u i × SpellsItem k cs i
-  Comes (Refused a) =
-      (a ≡ NotDue n)
-      ⊎ (((a ≡ BadInitial n) × InitialDue u × ((rest : List ℕ) × (cs ≡ bytes "INIT" ++ rest) × (BinaryDigits k rest → ⊥)))
-      ⊎ (((j : ℕ) × (a ≡ BadExpression (place j)) × EquationDue u × FaultAt cs j) ⊎ ((a ≡ TooDeep n) × DeepIn u cs)))
+  Comes (Refused a) = (a ≡ NotDue n) ⊎ ((a ≡ TooDeep n) × DeepIn u cs)
 
   word_comes : (w : List ℕ) (f : List ℕ → Outcome Item) (other : Outcome Item) → ((rs : List ℕ) → cs ≡ w ++ rs → Comes (f rs)) → Comes other → Comes (word w cs f other)
   word_comes w f other g o = go (behind w cs) refl
@@ -311,118 +271,47 @@ module _ (u : Due) (k n : ℕ) (place : ℕ → ℕ) (cs : List ℕ) where
       (λ v h. let w = whole-number_got n base.variables rs v h in (p, (e ∙ ap (λ (l : List ℕ). bytes "VARS" ++ l) w.0, w.1)))
       (λ a h. inl (number_refused n base.variables rs a h))
 
-  init_comes : InitialDue u → (rs : List ℕ) → cs ≡ bytes "INIT" ++ rs → Comes (init_item k n rs)
+  init_comes : (u ≡ DueInit) ⊎ (u ≡ DueAny) → (rs : List ℕ) → cs ≡ bytes "INIT" ++ rs → Comes (init_item k n rs)
   init_comes p rs e = go (read_binary 0 k 0 rs) refl
     where
       go : (b : Option ℕ) → read_binary 0 k 0 rs ≡ b → Comes (state_item n b)
-      go none q = inr (inl (refl, p, (rs, e, no_binary 0 k 0 rs q)))
+      go none q = inl refl
       go (some s) q = let w = read_binary_lem k rs s q in (p, (e ∙ ap (λ (l : List ℕ). bytes "INIT" ++ l) w.0, w.1))
 
-  -- The refusal of an expression after a head.
-  refused_comes : EquationDue u → (head es : List ℕ) → Headed head → cs ≡ head ++ es → (TooFar es → DeepIn u cs) → (a : Answer) → whole_expr n place es ≡ Refused a → Comes (Refused a)
-  refused_comes p head es w e d a g =
-      ⊎_elim
-      (λ (j, q, f). inr (inr (inl (j, q, p, subst (λ (l : List ℕ). FaultAt l j) (sym e) f))))
-      (λ (q, far). inr (inr (inr (q, d far))))
-      (expr_refused n place head es a w g)
-
-  equation_comes : EquationDue u → (rs : List ℕ) → cs ≡ bytes "V" ++ rs → Comes (left_item n place (read_number rs))
+  equation_comes : EquationDue u → (rs : List ℕ) → cs ≡ bytes "V" ++ rs → Comes (left_item n (read_number rs))
   equation_comes p rs e = left (read_number rs) refl
     where
-      right : (v : ℕ) (l : List ℕ) → rs ≡ decimal v ++ l → v < 100 → (b : Option (List ℕ)) → behind (bytes "=") l ≡ b → Comes (right_item n place v b)
+      right : (v : ℕ) (l : List ℕ) → rs ≡ decimal v ++ l → v < 100 → (b : Option (List ℕ)) → behind (bytes "=") l ≡ b → Comes (right_item n v b)
       right v l q h none w = inl refl
       right v l q h (some es) w =
           let start : cs ≡ bytes "V" ++ (decimal v ++ (bytes "=" ++ es)) = e ∙ ap (λ (x : List ℕ). bytes "V" ++ x) (q ∙ ap (λ (x : List ℕ). decimal v ++ x) (behind_word (bytes "=") l es w)) in
-          passed_comes (whole_expr n place es) (λ x. Equals (record { left = v; right = x }))
-          (λ x g. let z = whole_expr_got n place es x g in (p, (start ∙ ap (λ (y : List ℕ). bytes "V" ++ (decimal v ++ (bytes "=" ++ y))) z.0, h, z.1, z.2)))
-          (refused_comes p (bytes "V" ++ (decimal v ++ bytes "=")) es (inl (v, h, refl)) (start ∙ sym (head_equation v es)) (λ far. (p, inl (v, es, h, start, far))))
+          passed_comes (whole_expr n es) (λ x. Equals (record { left = v; right = x }))
+          (λ x g. let z = whole_expr_got n es x g in (p, (start ∙ ap (λ (y : List ℕ). bytes "V" ++ (decimal v ++ (bytes "=" ++ y))) z.0, h, z.1, z.2)))
+          (λ a g. ⊎_elim inl (λ (d, far). inr (d, (p, inl (v, es, h, start, far)))) (expr_refused n es a g))
 
-      left : (c : Counted) → read_number rs ≡ c → Comes (left_item n place c)
+      left : (c : Counted) → read_number rs ≡ c → Comes (left_item n c)
       left (NoNumber l) q = inl refl
       left (Number v l) q = let w = read_decimal rs v l q in right v l w.0 w.1 (behind (bytes "=") l) refl
 
-  prop_comes : EquationDue u → (rs : List ℕ) → cs ≡ bytes "PROP" ++ rs → Comes (prop_item n place rs)
+  prop_comes : EquationDue u → (rs : List ℕ) → cs ≡ bytes "PROP" ++ rs → Comes (prop_item n rs)
   prop_comes p rs e =
-      passed_comes (whole_expr n place rs) Property
-      (λ x g. let z = whole_expr_got n place rs x g in (p, (e ∙ ap (λ (y : List ℕ). bytes "PROP" ++ y) z.0, z.1, z.2)))
-      (refused_comes p (bytes "PROP") rs (inr refl) e (λ far. (p, inr (rs, e, far))))
+      passed_comes (whole_expr n rs) Property
+      (λ x g. let z = whole_expr_got n rs x g in (p, (e ∙ ap (λ (y : List ℕ). bytes "PROP" ++ y) z.0, z.1, z.2)))
+      (λ a g. ⊎_elim inl (λ (d, far). inr (d, (p, inr (rs, e, far)))) (expr_refused n rs a g))
 
   end_comes : u ≡ DueEnd → (rs : List ℕ) → cs ≡ bytes "END" ++ rs → Comes (end_item n rs)
   end_comes p [] e = (p, e ∙ append-nil (bytes "END"))
   end_comes p (c ∷ rs) e = inl refl
 
-  open_comes : EquationDue u → Comes (open_item n place cs)
+  open_comes : EquationDue u → Comes (open_item n cs)
   unfolding open_item
   open_comes p = word_comes (bytes "V") _ _ (equation_comes p) (word_comes (bytes "PROP") _ _ (prop_comes p) (inl refl))
 
-pub item_comes : (u : Due) (k n : ℕ) (place : ℕ → ℕ) (cs : List ℕ) → Comes u k n place cs (item_read u k n place cs)
+pub item_comes : (u : Due) (k n : ℕ) (cs : List ℕ) → Comes u k n cs (item_read u k n cs)
 unfolding item_read
-item_comes DueVars k n place cs = word_comes DueVars k n place cs (bytes "VARS") _ _ (vars_comes DueVars k n place cs refl) (inl refl)
-item_comes DueInit k n place cs = word_comes DueInit k n place cs (bytes "INIT") _ _ (init_comes DueInit k n place cs (inl refl)) (inl refl)
-item_comes DueAny k n place cs = word_comes DueAny k n place cs (bytes "INIT") _ _ (init_comes DueAny k n place cs (inr refl)) (open_comes DueAny k n place cs (inl refl))
-item_comes DueEquation k n place cs = open_comes DueEquation k n place cs (inr refl)
-item_comes DueEnd k n place cs = word_comes DueEnd k n place cs (bytes "END") _ _ (end_comes DueEnd k n place cs refl) (inl refl)
-item_comes DueNone k n place cs = inl refl
-
--- ---- 25 and 24, where they are met
-
-pub binary_item : (u : Due) (k n : ℕ) (place : ℕ → ℕ) (cs rest : List ℕ) → InitialDue u → cs ≡ bytes "INIT" ++ rest → (BinaryDigits k rest → ⊥) → item_read u k n place cs ≡ Refused (BadInitial n)
-unfolding item_read
-binary_item u k n place cs rest p e x =
-    ⊎_elim
-    (λ d. ap (λ (w : Due). item_read w k n place cs) d ∙ ap (item_read DueInit k n place) e ∙ word_found (bytes "INIT") rest _ _ ∙ state (read_binary 0 k 0 rest) refl)
-    (λ d. ap (λ (w : Due). item_read w k n place cs) d ∙ ap (item_read DueAny k n place) e ∙ word_found (bytes "INIT") rest _ _ ∙ state (read_binary 0 k 0 rest) refl)
-    p
-  where
-    state : (b : Option ℕ) → read_binary 0 k 0 rest ≡ b → state_item n b ≡ Refused (BadInitial n)
-    state none q = refl
-    state (some s) q = absurd (x (binary_digits 0 k 0 rest s q))
-
--- Where an expression has its first fault, and is not too deep before it, it is refused there.
-broken_expr : (n : ℕ) (place : ℕ → ℕ) (head es : List ℕ) (j : ℕ)
-    → Headed head
-    → FaultAt (head ++ es) j
-    → ((x : Expr) → es ≡ spelling x → Below 100 x → Right (head ++ es))
-    → (TooFar es → ⊥)
-    → whole_expr n place es ≡ Refused (BadExpression (place j))
-broken_expr n place head es j w f right far = go (whole_expr n place es) refl
-  where
-    go : (r : Outcome Expr) → whole_expr n place es ≡ r → r ≡ Refused (BadExpression (place j))
-    go (Got x) e = let z = whole_expr_got n place es x e in absurd (right_no_fault (head ++ es) j (right x z.0 z.2) f)
-    go (Refused a) e =
-        ⊎_elim
-        (λ (i, q, g). ap Refused (q ∙ ap (λ (m : ℕ). BadExpression (place m)) (fault_unique (head ++ es) i j g f)))
-        (λ (q, d). absurd (far d))
-        (expr_refused n place head es a w e)
-
-pub broken_item : (u : Due) (k n : ℕ) (place : ℕ → ℕ) (cs : List ℕ) (j : ℕ) → EquationDue u → FaultAt cs j → (DeepIn u cs → ⊥) → item_read u k n place cs ≡ Refused (BadExpression (place j))
-broken_item u k n place cs j p f deep = go f.headed
-  where
-    es : List ℕ
-    es = f.body ++ f.rest
-
-    whole : cs ≡ f.head ++ es
-    whole = f.spelt ∙ append_assoc f.head f.body f.rest
-
-    go : Headed f.head → item_read u k n place cs ≡ Refused (BadExpression (place j))
-    go (inl (v, h, e)) =
-        let start : cs ≡ bytes "V" ++ (decimal v ++ (bytes "=" ++ es)) = whole ∙ ap (λ (l : List ℕ). l ++ es) e ∙ head_equation v es in
-        let at : cs ≡ (bytes "V" ++ (decimal v ++ bytes "=")) ++ es = start ∙ sym (head_equation v es) in
-        ap (item_read u k n place) start
-        ∙ open_read u k n place (bytes "V" ++ (decimal v ++ (bytes "=" ++ es))) p (no_init_equation _)
-        ∙ open_equation n v place es h
-        ∙ ap
-        (λ (r : Outcome Expr). afterwards r (λ e. Got (Equals (record { left = v; right = e }))))
-        (broken_expr n place (bytes "V" ++ (decimal v ++ bytes "=")) es j (inl (v, h, refl)) (subst (λ (l : List ℕ). FaultAt l j) at f)
-        (λ x q b. inl (record { left = v; right = x }, head_equation v es ∙ ap (λ (y : List ℕ). bytes "V" ++ (decimal v ++ (bytes "=" ++ y))) q, h, b))
-        (λ far. deep (p, inl (v, es, h, start, far))))
-    go (inr e) =
-        let start : cs ≡ bytes "PROP" ++ es = whole ∙ ap (λ (l : List ℕ). l ++ es) e in
-        ap (item_read u k n place) start
-        ∙ open_read u k n place (bytes "PROP" ++ es) p (no_init_prop _)
-        ∙ open_property n place es
-        ∙ ap
-        (λ (r : Outcome Expr). afterwards r (λ e. Got (Property e)))
-        (broken_expr n place (bytes "PROP") es j (inr refl) (subst (λ (l : List ℕ). FaultAt l j) start f)
-        (λ x q b. inr (x, ap (λ (y : List ℕ). bytes "PROP" ++ y) q, b))
-        (λ far. deep (p, inr (es, start, far))))
+item_comes DueVars k n cs = word_comes DueVars k n cs (bytes "VARS") _ _ (vars_comes DueVars k n cs refl) (inl refl)
+item_comes DueInit k n cs = word_comes DueInit k n cs (bytes "INIT") _ _ (init_comes DueInit k n cs (inl refl)) (inl refl)
+item_comes DueAny k n cs = word_comes DueAny k n cs (bytes "INIT") _ _ (init_comes DueAny k n cs (inr refl)) (open_comes DueAny k n cs (inl refl))
+item_comes DueEquation k n cs = open_comes DueEquation k n cs (inr refl)
+item_comes DueEnd k n cs = word_comes DueEnd k n cs (bytes "END") _ _ (end_comes DueEnd k n cs refl) (inl refl)
+item_comes DueNone k n cs = inl refl

@@ -10,4 +10,3 @@ pub mod FramesRefused
 pub mod ClaimsRefused
 pub mod Operations
 pub mod RefusedExactlyWhen
-pub mod FirstFault

@@ -108,12 +108,6 @@ module _ {A : Type 0} where
   meets_afterwards c d Q R (Got x) f (n, q) g = meets_right c d R (f x) n (g x refl q)
   meets_afterwards c d Q R (Refused a) f m g = first-left c d a m
 
--- A result has Q.
-pub meets_given : {A : Type 0} (c : Conditions) (Q : A → Type 0) (r : Outcome A) (x : A) → Meets c Q r → r ≡ Got x → Q x
-unfolding Meets
-meets_given c Q (Got y) x (n, q) e = subst Q (got_eq e) q
-meets_given c Q (Refused a) x m e = refused_got e
-
 -- A result that no condition refuses has whatever follows from that.
 pub meets_keeps : {A : Type 0} (c : Conditions) (Q R : A → Type 0) (r : Outcome A) → Meets c Q r → ((x : A) → NoneOf c → Q x → R x) → Meets c R r
 unfolding Meets
@@ -187,11 +181,6 @@ pub rising_alike : (P Q : ℕ → Type 0) (b : ℕ → Answer) (k v : ℕ) → (
 unfolding rising
 rising_alike P Q b zero v f = tt
 rising_alike P Q b (suc k) v f = (f v, refl, rising_alike P Q b k (suc v) f)
-
--- The lowest number whose condition holds gives its answer.
-pub meets_rising : {A : Type 0} (P : ℕ → Type 0) (b : ℕ → Answer) (k v w : ℕ) (c : Conditions) (Q : A → Type 0) → v ≤ w → w < v + k → P w → ((u : ℕ) → v ≤ u → u < w → P u → ⊥) → Meets {A = A} (followed (rising P b k v) c) Q (Refused (b w))
-unfolding Meets
-meets_rising P b k v w c Q l h p n = first-left (rising P b k v) c (b w) (rising-first P b k v w l h p n)
 
 -- ---- the first in words
 

@@ -1,35 +1,32 @@
--- The walk over the statements refuses exactly where a fault of theirs is the first.
+-- The walk over the statements refuses exactly where a fault of 8 to 14 is the first.
 use mathlib.Core.Path.{◌≡◌, refl, sym, ap, ◌∙◌, subst}
-use mathlib.Core.Logic.{◌⊎◌, inl, inr, ⊎_elim, by_cases, ◌↔◌}
+use mathlib.Core.Logic.{inl, inr, ⊎_elim, by_cases, ◌↔◌}
 use mathlib.Core.Bool.{Bool, true, false, not}
-use mathlib.Core.List.{List, [], ◌∷◌, ◌++◌}
+use mathlib.Core.List.{List, [], ◌∷◌}
 use Prim.Native.Nat.{ℕ, suc, ◌+◌, ◌^◌, ◌<◌}
 use native.Mathlib.Omega.{arith}
 use native.Mathlib.Decide.{dec_lt}
 use borrow.Author.Tests.{ltb-true, ltb-false, not_false, not_true}
 use lib.Dec.{ltb}
-use lib.ListN.{length, length-append}
+use lib.ListN.{length}
 use lib.Pow.{pow-lt}
 use Rattle.sets.specs.Sets.{◌∋◌, has, inside}
 use Rattle.sets.proofs.Laws.{bit-only, true_has, has_true, true_inside, false_inside}
 use Rattle.logic.specs.Expressions.{nodes, written, temporal}
 use Rattle.logic.specs.Decks.{Equation, base, total_nodes}
-use Rattle.decks.specs.declared.Answer.TheVariants.{Outside, Temporal, TooDeep, ManyInitials, ManyEquations, ManyNodes, BadExpression, BadInitial}
-use Rattle.decks.specs.declared.Answer.{Answer}
-use Rattle.decks.specs.Answers.{Outcome, Got, Refused, refuse, afterwards, reply_of}
+use Rattle.decks.specs.declared.Answer.TheVariants.{NotDue, Outside, Temporal, TooDeep, ManyInitials, ManyEquations, ManyNodes}
+use Rattle.decks.specs.Answers.{Outcome, Got, Refused, refuse, afterwards}
 use Rattle.decks.specs.Readings.{walk}
 use Rattle.cards.specs.Statement.{Statement, inked}
-use Rattle.cards.specs.Places.{places_of, place_left}
 use Rattle.cards.specs.Typed.{Typed, first_vars}
 use Rattle.cards.specs.Read.{Sofar, begun, with_equation, statement_read}
 use Rattle.decks.proofs.Outcomes.{refused_got, got_eq}
 use Rattle.cards.proofs.TypedLaws.{member_first-vars, below_subset}
-use Rattle.cards.proofs.FirstFault.{fault_unique}
 use Rattle.logic.proofs.Rights.{plain-temporal, temporal-plain}
-use Rattle.refusals.specs.Order.{Conditions, Done, Try, NoneOf, one_by_one, backwards}
-use Rattle.refusals.specs.StatementFaults.{Item, Count, Initial, Equals, Property, Ending, Says, DeepIn, NotBinary, BrokenAt, NoForm, OtherCause, UsesOutside, NotPlain, InitialOver, EquationOver, NodesOver, item_faults, added, Typing, Behind, Saying, broken_faults, statement_faults}
-use Rattle.refusals.proofs.OrderLaws.{true_false, Meets, meets_is, meets_here, meets_past, meets_test, meets_got, meets_right, meets_keeps, alike_meets, meets_walk, meets_rising, rising_none}
-use Rattle.refusals.proofs.Items.{item_read, judged, due_judges, spelt_item, deep_item, binary_item, broken_item, Comes, item_comes}
+use Rattle.refusals.specs.Order.{Conditions, Done, Try, one_by_one, backwards}
+use Rattle.refusals.specs.StatementFaults.{Item, Count, Initial, Equals, Property, Ending, Says, DeepIn, NoForm, UsesOutside, NotPlain, InitialOver, EquationOver, NodesOver, item_faults, added, Typing, Behind, Saying, statement_faults}
+use Rattle.refusals.proofs.OrderLaws.{true_false, Meets, meets_is, meets_here, meets_past, meets_test, meets_got, meets_keeps, alike_meets, meets_walk}
+use Rattle.refusals.proofs.Items.{item_read, judged, due_judges, spelt_item, deep_item, Comes, item_comes}
 
 -- ---- the judgement of one item
 
@@ -85,46 +82,10 @@ item_judged n t (Property x) =
 item_judged n t Ending =
     meets_past _ _ _ _ _ (λ h. h) (meets_past _ _ _ _ _ (λ h. h) (meets_past _ _ _ _ _ (λ h. h) (meets_past _ _ _ _ _ (λ h. h) (meets_past _ _ _ _ _ (λ h. h) (meets_got _ _ refl)))))
 
--- Answers that are one have one number.
-same_number : {a b : Answer} → ◌≡◌ {A = Outcome Item} (Refused a) (Refused b) → (reply_of a).number ≡ (reply_of b).number
-same_number e = cc
-
--- ---- what a statement comes to excludes
-
-module _ (so : Sofar) (n : ℕ) (place : ℕ → ℕ) (cs : List ℕ) (r : Outcome Item) (is : item_read so.due so.typed.count n place cs ≡ r) where
-  -- A condition does not hold that would have it come to something else.
-  not_binary : (r ≡ Refused (BadInitial n) → ⊥) → NotBinary so cs → ⊥
-  not_binary x (p, (rest, q, b)) = x (sym is ∙ binary_item so.due so.typed.count n place cs rest p q b)
-
-  not_broken : (k : ℕ) → (r ≡ Refused (BadExpression (place k)) → ⊥) → BrokenAt so.due cs k → ⊥
-  not_broken k x (p, f, d) = x (sym is ∙ broken_item so.due so.typed.count n place cs k p f d)
-
-  no_form : ((i : Item) → r ≡ Got i → ⊥) → (r ≡ Refused (TooDeep n) → ⊥) → NoForm so cs
-  no_form x y = (λ i w. x i (sym is ∙ spelt_item so.due so.typed.count n place cs i w.0 w.1), λ d. y (sym is ∙ deep_item so.due so.typed.count n place cs d))
-
--- 25, 24 and what 23 is given for are the causes that a statement has no form due, each without the others: together they are all of them.
-pub causes_exactly : (so : Sofar) (cs : List ℕ) → NoForm so cs ↔ (NotBinary so cs ⊎ (((k : ℕ) × BrokenAt so.due cs k) ⊎ OtherCause so cs))
-causes_exactly so cs = (λ h. go (item_read so.due so.typed.count 0 (λ k. k) cs) refl (item_comes so.due so.typed.count 0 (λ k. k) cs) h, ⊎_elim binary (⊎_elim (λ (k, b). broken k b) (λ o. o.0)))
-  where
-    binary : NotBinary so cs → NoForm so cs
-    binary (p, (rest, q, b)) = no_form so 0 (λ k. k) cs _ (binary_item so.due so.typed.count 0 (λ k. k) cs rest p q b) (λ i e. refused_got e) (λ e. omega (arith, same_number e))
-
-    broken : (k : ℕ) → BrokenAt so.due cs k → NoForm so cs
-    broken k (p, f, d) = no_form so 0 (λ k. k) cs _ (broken_item so.due so.typed.count 0 (λ k. k) cs k p f d) (λ i e. refused_got e) (λ e. omega (arith, same_number e))
-
-    go : (r : Outcome Item) → item_read so.due so.typed.count 0 (λ k. k) cs ≡ r → Comes so.due so.typed.count 0 (λ k. k) cs r → NoForm so cs → NotBinary so cs ⊎ (((k : ℕ) × BrokenAt so.due cs k) ⊎ OtherCause so cs)
-    go (Got i) e c h = absurd (h.0 i c)
-    go (Refused a) e (inl f) h =
-        let g = e ∙ ap Refused f in
-        inr (inr (h, not_binary so 0 (λ k. k) cs _ g (λ q. omega (arith, same_number q)), λ k. not_broken so 0 (λ k. k) cs _ g k (λ q. omega (arith, same_number q))))
-    go (Refused a) e (inr (inl (f, p, b))) h = inl (p, b)
-    go (Refused a) e (inr (inr (inl (k, f, p, w)))) h = inr (inl (k, (p, w, h.1)))
-    go (Refused a) e (inr (inr (inr (f, d)))) h = absurd (h.1 d)
-
 -- ---- what was typed, and what is said, are one
 
 says_unique : (so : Sofar) (cs : List ℕ) (i j : Item) → Says so cs i → Says so cs j → i ≡ j
-says_unique so cs i j (p, s) (q, r) = got_eq (sym (spelt_item so.due so.typed.count 0 (λ k. k) cs i p s) ∙ spelt_item so.due so.typed.count 0 (λ k. k) cs j q r)
+says_unique so cs i j (p, s) (q, r) = got_eq (sym (spelt_item so.due so.typed.count 0 cs i p s) ∙ spelt_item so.due so.typed.count 0 cs j q r)
 
 pub typing_unique : (back : List Statement) (so to : Sofar) → Typing back so → Typing back to → so ≡ to
 typing_unique [] so to e f = e ∙ sym f
@@ -154,50 +115,27 @@ module _ (back : List Statement) (so : Sofar) (t : Typing back so) where
   -- A statement meets its faults in their order.
   statement_meets : (m : ℕ) (s : Statement) → Meets (statement_faults m back s) (Typing (s ∷ back)) (statement_read m s so)
   unfolding statement_read
-  statement_meets m s = meets_is _ _ _ _ (due_judges n place so.typed so.due cs) (go (item_read so.due so.typed.count n place cs) refl (item_comes so.due so.typed.count n place cs))
+  statement_meets m s = meets_is _ _ _ _ (due_judges n so.typed so.due cs) (go (item_read so.due so.typed.count n cs) refl (item_comes so.due so.typed.count n cs))
     where
       n : ℕ
       n = s.card
 
-      place : ℕ → ℕ
-      place = place_left (places_of s)
-
       cs : List ℕ
       cs = inked s.field
 
-      -- The conditions on what was typed, from those on what was typed with the statements before it.
-      other_binary : (r : Outcome Item) → item_read so.due so.typed.count n place cs ≡ r → (r ≡ Refused (BadInitial n) → ⊥) → Behind back (λ w. NotBinary w cs) → ⊥
-      other_binary r e x h = not_binary so n place cs r e x (behind_is (λ (w : Sofar). NotBinary w cs) h)
+      deep-not-due : {P : Type 0} {x y : ℕ} → ◌≡◌ {A = Outcome Item} (Refused (TooDeep x)) (Refused (NotDue y)) → P
+      deep-not-due e = let z : ◌≡◌ {A = ℕ} 0 1 = cc in absurd (omega arith)
 
-      other_broken : (r : Outcome Item) → item_read so.due so.typed.count n place cs ≡ r → ((k : ℕ) → r ≡ Refused (BadExpression (place k)) → ⊥) → NoneOf (broken_faults back s)
-      other_broken r e x = rising_none _ _ _ _ (λ k l i h. not_broken so n place cs r e k (x k) (behind_is (λ (w : Sofar). BrokenAt w.due cs k) h))
-
-      go : (r : Outcome Item) → item_read so.due so.typed.count n place cs ≡ r → Comes so.due so.typed.count n place cs r → Meets (statement_faults m back s) (Typing (s ∷ back)) (afterwards r (judged n so.typed))
+      go : (r : Outcome Item) → item_read so.due so.typed.count n cs ≡ r → Comes so.due so.typed.count n cs r → Meets (statement_faults m back s) (Typing (s ∷ back)) (afterwards r (judged n so.typed))
       go (Got i) e c =
-          meets_past _ _ _ _ _ (other_binary _ e (λ q. refused_got (sym q)))
-          (meets_right _ _ _ _ (other_broken _ e (λ k q. refused_got (sym q)))
-          (meets_past _ _ _ _ _ (λ h. (behind_is (λ (w : Sofar). NoForm w cs) h).0 i c)
-          (meets_past _ _ _ _ _ (λ h. refused_got (sym (deep_item so.due so.typed.count n place cs (behind_is (λ (w : Sofar). DeepIn w.due cs) h)) ∙ e)) (said_meets s i c))))
+          meets_past _ _ _ _ _ (λ h. (behind_is (λ (w : Sofar). NoForm w cs) h).0 i c)
+          (meets_past _ _ _ _ _ (λ h. refused_got (sym (deep_item so.due so.typed.count n cs (behind_is (λ (w : Sofar). DeepIn w.due cs) h)) ∙ e)) (said_meets s i c))
       go (Refused a) e (inl f) =
           let g = e ∙ ap Refused f in
           meets_is _ _ _ _ (ap Refused f)
-          (meets_past _ _ _ _ _ (other_binary _ g (λ q. omega (arith, same_number q)))
-          (meets_right _ _ _ _ (other_broken _ g (λ k q. omega (arith, same_number q)))
-          (meets_here _ _ _ _ (so, t, no_form so n place cs _ g (λ i q. refused_got q) (λ q. omega (arith, same_number q))))))
-      go (Refused a) e (inr (inl (f, p, b))) = meets_is _ _ _ _ (ap Refused f) (meets_here _ _ _ _ (so, t, (p, b)))
-      go (Refused a) e (inr (inr (inl (k, f, p, w)))) =
-          let g = e ∙ ap Refused f in
-          meets_is _ _ _ _ (ap Refused f)
-          (meets_past _ _ _ _ _ (other_binary _ g (λ q. omega (arith, same_number q)))
-          (meets_rising _ _ _ _ _ _ _ (omega arith) (omega (arith, ap length w.spelt, length-append (w.head ++ w.body) w.rest, w.left))
-          (so, t, (p, w, (no_form so n place cs _ g (λ i q. refused_got q) (λ q. omega (arith, same_number q))).1))
-          (λ j l h b. let (p, v, d) = behind_is (λ (w : Sofar). BrokenAt w.due cs j) b in omega (arith, h, fault_unique cs j k v w))))
-      go (Refused a) e (inr (inr (inr (f, d)))) =
-          let g = e ∙ ap Refused f in
-          meets_is _ _ _ _ (ap Refused f)
-          (meets_past _ _ _ _ _ (other_binary _ g (λ q. omega (arith, same_number q)))
-          (meets_right _ _ _ _ (other_broken _ g (λ k q. omega (arith, same_number q)))
-          (meets_past _ _ _ _ _ (λ h. (behind_is (λ (w : Sofar). NoForm w cs) h).1 d) (meets_here _ _ _ _ (so, t, d)))))
+          (meets_here _ _ _ _ (so, t, (λ i y. refused_got (sym g ∙ spelt_item so.due so.typed.count n cs i y.0 y.1), λ d. deep-not-due (sym (deep_item so.due so.typed.count n cs d) ∙ g))))
+      go (Refused a) e (inr (f, d)) =
+          meets_is _ _ _ _ (ap Refused f) (meets_past _ _ _ _ _ (λ h. (behind_is (λ (w : Sofar). NoForm w cs) h).1 d) (meets_here _ _ _ _ (so, t, d)))
 
 -- All statements meet their faults, statement by statement.
 pub statements-meet : (ss : List Statement) → Meets (one_by_one statement_faults 1 [] ss) (Typing (backwards [] ss)) (walk statement_read 1 ss begun)

@@ -6,4 +6,3 @@ pub mod FrameFaults
 pub mod FramesOrder
 pub mod ClaimFaults
 pub mod OperationsOrder
-pub mod FirstFault

@@ -1,19 +1,15 @@
--- The faults of a statement, 9 to 14 and 23 to 25: conditions on its characters without blanks, and on the statements before it.
-use Rattle.std.specs.Prelude.{◌≡◌, ◌⊎◌, List, [], ◌∷◌, ◌++◌, ℕ, suc, ◌+◌, ◌^◌, ◌<◌, ◌≤◌, length}
-use Prim.Native.Char.{code as character}
-use Rattle.lists.specs.Lists.{Each}
+-- The faults of a statement, 8 to 14: conditions on its characters without blanks, and on the statements before it.
+use Rattle.std.specs.Prelude.{◌≡◌, ◌⊎◌, List, [], ◌∷◌, ◌++◌, ℕ, ◌+◌, ◌^◌, ◌<◌, ◌≤◌, length}
 use Rattle.lists.specs.Texts.{bytes}
 use Rattle.sets.specs.Sets.{◌⊆◌}
 use Rattle.logic.specs.Expressions.{Expr, nodes, levels, written, Plain, decimal, spelling, Below}
 use Rattle.logic.specs.Decks.{Equation, base, total_nodes}
-use Rattle.decks.specs.declared.Answer.TheVariants.{Outside, Temporal, TooDeep, ManyInitials, ManyEquations, ManyNodes, NotDue, BadExpression, BadInitial}
+use Rattle.decks.specs.declared.Answer.TheVariants.{NotDue, Outside, Temporal, TooDeep, ManyInitials, ManyEquations, ManyNodes}
 use Rattle.cards.specs.Statement.{Statement, inked}
-use Rattle.cards.specs.Places.{places_of, place_left}
 use Rattle.cards.specs.Typed.{Typed, init_spelt, equation_spelt, first_vars}
 use Rattle.cards.specs.Read.{Due, DueVars, DueInit, DueAny, DueEquation, DueEnd, DueNone, Sofar, begun}
 use Rattle.cards.specs.Deep.{TooFar}
-use Rattle.cards.specs.Right.{FaultAt}
-use Rattle.refusals.specs.Order.{Conditions, Done, Try, NoneOf, followed, rising}
+use Rattle.refusals.specs.Order.{Conditions, Done, Try, NoneOf}
 
 -- What a statement says: `VARS` n, `INIT` and a state, an equation, `PROP` and an expression, `END`.
 pub data Item : Type 0 where
@@ -27,12 +23,9 @@ pub data Item : Type 0 where
 abbrev pub EquationDue : Due → Type 0
 EquationDue u = (u ≡ DueAny) ⊎ (u ≡ DueEquation)
 
-abbrev pub InitialDue : Due → Type 0
-InitialDue u = (u ≡ DueInit) ⊎ (u ≡ DueAny)
-
 abbrev pub Permits : Due → Item → Type 0
 Permits u (Count n) = u ≡ DueVars
-Permits u (Initial s) = InitialDue u
+Permits u (Initial s) = (u ≡ DueInit) ⊎ (u ≡ DueAny)
 Permits u (Equals q) = EquationDue u
 Permits u (Property e) = EquationDue u
 Permits u Ending = u ≡ DueEnd
@@ -56,25 +49,9 @@ DeepIn u cs =
     × (((v : ℕ) × (rest : List ℕ) × (v < 100) × (cs ≡ bytes "V" ++ (decimal v ++ (bytes "=" ++ rest))) × TooFar rest)
     ⊎ ((rest : List ℕ) × (cs ≡ bytes "PROP" ++ rest) × TooFar rest))
 
--- n characters, each `0` or `1`.
-abbrev pub BinaryDigits : ℕ → List ℕ → Type 0
-BinaryDigits n cs = (length cs ≡ n) × Each (λ (c : ℕ). (c ≡ character "0") ⊎ (c ≡ character "1")) cs
-
--- 25: `INIT` is due and begins the statement, but the rest is not n binary digits.
-abbrev pub NotBinary : Sofar → List ℕ → Type 0
-NotBinary so cs = InitialDue so.due × ((rest : List ℕ) × (cs ≡ bytes "INIT" ++ rest) × (BinaryDigits so.typed.count rest → ⊥))
-
--- 24: `Vi=` or `PROP` is due and begins the statement, and from the first character at which no right statement can go on k of them are left; 11 is not met before it.
-abbrev pub BrokenAt : Due → List ℕ → ℕ → Type 0
-BrokenAt u cs k = EquationDue u × FaultAt cs k × (DeepIn u cs → ⊥)
-
--- No statement of a form due, and 11 is not met.
+-- 8: no statement of a form due, and 11 is not met.
 abbrev pub NoForm : Sofar → List ℕ → Type 0
 NoForm so cs = ((i : Item) → Says so cs i → ⊥) × (DeepIn so.due cs → ⊥)
-
--- What 23 is given for: no form due, for another cause than 24 or 25.
-abbrev pub OtherCause : Sofar → List ℕ → Type 0
-OtherCause so cs = NoForm so cs × (NotBinary so cs → ⊥) × ((k : ℕ) → BrokenAt so.due cs k → ⊥)
 
 -- 9: a variable outside the set.
 abbrev pub UsesOutside : Typed → Item → Type 0
@@ -144,19 +121,12 @@ Behind back P = (so : Sofar) × Typing back so × P so
 abbrev pub Saying : List Statement → Statement → (Typed → Item → Type 0) → Type 0
 Saying back s P = Behind back (λ so. (i : Item) × Says so (inked s.field) i × P so.typed i)
 
--- 24, for each number of characters that may be left.
-abbrev pub broken_faults : List Statement → Statement → Conditions
-broken_faults back s =
-    rising (λ k. Behind back (λ so. BrokenAt so.due (inked s.field) k)) (λ k. BadExpression (place_left (places_of s) k)) (suc (length (inked s.field))) 0
-
--- A statement after those given: 25, 24, and 23 for every other that has no form due; 11; then 9, 10, 12, 13, 14.
+-- A statement behind those given: 8 and 11, then 9, 10, 12, 13, 14.
 abbrev pub statement_faults : ℕ → List Statement → Statement → Conditions
 statement_faults m back s =
-    Try (Behind back (λ so. NotBinary so (inked s.field))) (BadInitial s.card)
-    (followed (broken_faults back s)
-    (Try (Behind back (λ so. NoForm so (inked s.field))) (NotDue s.card)
+    Try (Behind back (λ so. NoForm so (inked s.field))) (NotDue s.card)
     (Try (Behind back (λ so. DeepIn so.due (inked s.field))) (TooDeep s.card)
     (Try (Saying back s UsesOutside) (Outside 1 s.card)
     (Try (Saying back s NotPlain) (Temporal s.card)
     (Try (Saying back s InitialOver) (ManyInitials s.card)
-    (Try (Saying back s EquationOver) (ManyEquations s.card) (Try (Saying back s NodesOver) (ManyNodes s.card) Done))))))))
+    (Try (Saying back s EquationOver) (ManyEquations s.card) (Try (Saying back s NodesOver) (ManyNodes s.card) Done))))))

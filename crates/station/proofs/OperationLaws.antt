@@ -23,7 +23,7 @@ use Rattle.station.proofs.NumberedFrames.{deck-numbered}
 
 readable : (o : Outcome Deck) → Numbered o → ((d : Deck) → o ≡ Got d → Accepted base d) → Readable o
 readable (Got d) h f = f d refl
-readable (Refused a) h f = (fault a h).0.0
+readable (Refused a) h f = (fault a h).0
 
 pub cards_readable : (text : List ℕ) → Readable (read_cards text)
 cards_readable text = readable (read_cards text) (cards_numbered text) (cards_accepted text)

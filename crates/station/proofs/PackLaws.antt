@@ -49,7 +49,7 @@ fine_packs : Packed Fine
 fine_packs = (lit< tt, lit< tt, omega arith)
 
 fault_packs : (a : Answer) → Names a → Packed a
-fault_packs a h = let ((l, n), t, p) = fault a h in (⊎_elim (λ m. omega arith) (λ (m, o). omega arith) n, omega arith, omega arith)
+fault_packs a h = let (l, n, t, p) = fault a h in (omega arith, omega arith, omega arith)
 
 room_packs : (n : ℕ) → n < 2 ^ 48 → Packed (NoRoom n)
 room_packs n h = (lit< tt, lit< tt, h)

@@ -17,7 +17,7 @@ use Rattle.logic.specs.Pieces.{pieces}
 use Rattle.logic.specs.Meaning.{Claim}
 use Rattle.logic.specs.Verdicts.{Verdict, Breaking, NotInitial as NotInitialState, NoStep as NoSuchStep, Holding as HoldingProperty, verdict}
 use Rattle.decks.specs.declared.Answer.{Answer}
-use Rattle.decks.specs.declared.Answer.TheVariants.{Fine, TooLong, BadByte, TooWide, BadStart, BadNumber, NoneOpen, TooManyCards, Outside, Temporal, TooDeep, ManyInitials, ManyEquations, ManyNodes, NoEquation, BadFrame, NoRoom, NotInitial, NoStep, Holding, NotDue, BadExpression, BadInitial, NoStatement}
+use Rattle.decks.specs.declared.Answer.TheVariants.{Fine, TooLong, BadByte, TooWide, BadStart, BadNumber, NoneOpen, TooManyCards, NotDue, Outside, Temporal, TooDeep, ManyInitials, ManyEquations, ManyNodes, NoEquation, BadFrame, NoRoom, NotInitial, NoStep, Holding}
 use Rattle.decks.specs.Answers.{Outcome, Got, Refused, reply_of}
 use Rattle.decks.specs.Stored.{blank}
 use Rattle.frames.specs.Written.{deck_frames}
@@ -30,7 +30,7 @@ use Rattle.claims.specs.Checked.{verdict_answer, claim_checked, deck_checked, ch
 use Rattle.pieces.specs.declared.Reduced.{Reduced}
 use Rattle.pieces.specs.Reduced.{piece_bytes, reduced, reduced_into}
 use Rattle.replies.specs.Replies.{read_reply, write_reply, write_buffer, reduce_reply, reduce_buffer, cone_reply}
-use Rattle.checking.proofs.Numbered.{OfText, Numbered, fault, no_room_other}
+use Rattle.checking.proofs.Numbered.{Numbered, fault}
 use Rattle.checking.proofs.NumberedClaims.{claim_numbered}
 use Rattle.station.proofs.NumberedFrames.{deck-numbered}
 
@@ -46,6 +46,7 @@ zero_fine (BadStart p) e = absurd (omega (arith, e))
 zero_fine (BadNumber p) e = absurd (omega (arith, e))
 zero_fine (NoneOpen p) e = absurd (omega (arith, e))
 zero_fine (TooManyCards p) e = absurd (omega (arith, e))
+zero_fine (NotDue p) e = absurd (omega (arith, e))
 zero_fine (Outside t p) e = absurd (omega (arith, e))
 zero_fine (Temporal p) e = absurd (omega (arith, e))
 zero_fine (TooDeep p) e = absurd (omega (arith, e))
@@ -58,10 +59,6 @@ zero_fine (NoRoom p) e = absurd (omega (arith, e))
 zero_fine NotInitial e = absurd (omega (arith, e))
 zero_fine (NoStep p) e = absurd (omega (arith, e))
 zero_fine Holding e = absurd (omega (arith, e))
-zero_fine (NotDue p) e = absurd (omega (arith, e))
-zero_fine (BadExpression p) e = absurd (omega (arith, e))
-zero_fine (BadInitial p) e = absurd (omega (arith, e))
-zero_fine NoStatement e = absurd (omega (arith, e))
 
 -- Success names no text and no place.
 pub zero_names_nothing : (a : Answer) → (reply_of a).number ≡ 0 → ((reply_of a).text ≡ 0) × ((reply_of a).place ≡ 0)
@@ -79,7 +76,7 @@ read_success (Refused a) z = zero_names_nothing a z
 
 pub read_got : (o : Outcome Deck) → Numbered o → (read_reply o).number ≡ 0 → (d : Deck) × (o ≡ Got d)
 read_got (Got d) h z = (d, refl)
-read_got (Refused a) h z = absurd (omega (arith, (fault a h).0.0, z))
+read_got (Refused a) h z = absurd (omega (arith, (fault a h).0, z))
 
 -- ---- texts into buffers
 
@@ -128,7 +125,7 @@ write_got (Got d) out h z =
     (λ (l, e). absurd (omega (arith, z, ap (λ (f : Filled). (reply_of f.report.answer).number) e)))
     (λ (l, e). (d, refl, l, ap (λ (f : Filled). f.report.bytes) e, ap (λ (f : Filled). f.buffer) e))
     (filled_as (deck_frames d) out)
-write_got (Refused a) out h z = absurd (omega (arith, (fault a h).0.0, z))
+write_got (Refused a) out h z = absurd (omega (arith, (fault a h).0, z))
 
 -- A write without room.
 pub write_no_room : (o : Outcome Deck) (out : List ℕ) → Numbered o → (write_reply o out).number ≡ 17 → (d : Deck) × (o ≡ Got d) × (length out < length (deck_frames d))
@@ -137,7 +134,7 @@ write_no_room (Got d) out h z =
     (λ (l, e). (d, refl, l))
     (λ (l, e). absurd (omega (arith, z, ap (λ (f : Filled). (reply_of f.report.answer).number) e)))
     (filled_as (deck_frames d) out)
-write_no_room (Refused a) out h z = absurd (no_room_other a h z)
+write_no_room (Refused a) out h z = absurd (omega (arith, (fault a h).1, z))
 
 -- ---- reductions
 
@@ -182,7 +179,7 @@ reduce_got (Got d) out h z =
     (λ (l, e, b). absurd (omega (arith, z, ap (λ (r : Reduced). (reply_of r.answer).number) e)))
     (λ (l, e, b). (d, refl, l, ap (λ (r : Reduced). r.pieces) e, ap (λ (r : Reduced). r.bytes) e, b))
     (reduced_as d out)
-reduce_got (Refused a) out h z = absurd (omega (arith, (fault a h).0.0, z))
+reduce_got (Refused a) out h z = absurd (omega (arith, (fault a h).0, z))
 
 -- A reduction without room: the place is the bytes that all pieces need.
 pub reduce_no_room : (o : Outcome Deck) (out : List ℕ) → Numbered o → (reduce_reply o out).number ≡ 17
@@ -192,7 +189,7 @@ reduce_no_room (Got d) out h z =
     (λ (l, e, b). (d, refl, l, ap (λ (r : Reduced). (reply_of r.answer).place) e))
     (λ (l, e, b). absurd (omega (arith, z, ap (λ (r : Reduced). (reply_of r.answer).number) e)))
     (reduced_as d out)
-reduce_no_room (Refused a) out h z = absurd (no_room_other a h z)
+reduce_no_room (Refused a) out h z = absurd (omega (arith, (fault a h).1, z))
 
 -- ---- cones
 
@@ -215,7 +212,7 @@ cone_got (Got d) s h z =
     (subset_dec s d.vars)
     (λ f. let e = read_cone d s f in (d, refl, f, ap (λ (r : ConeRead). r.set) e, ap (λ (r : ConeRead). r.size) e))
     (λ f. absurd (omega (arith, z, ap (λ (r : ConeRead). (reply_of r.answer).number) (read_outside d s f))))
-cone_got (Refused a) s h z = absurd (omega (arith, (fault a h).0.0, z))
+cone_got (Refused a) s h z = absurd (omega (arith, (fault a h).0, z))
 
 -- ---- claims
 
@@ -228,6 +225,10 @@ pub both_checked : (deck claim : List ℕ) (d : Deck) (m : Claim) → BothRead d
 unfolding checked
 both_checked deck claim d m (e, f) = ap (λ (o : Outcome Deck). deck_checked o claim) e ∙ ap (claim_checked d) f
 
+-- The numbers that name a fault of a text.
+abbrev pub OfText : ℕ → Type 0
+OfText n = (1 ≤ n) × (n ≤ 16)
+
 -- An answer without a number of a text's fault comes from a verdict.
 pub checked_both : (deck claim : List ℕ) → (OfText (reply_of (checked deck claim)).number → ⊥)
     → (d : Deck) × (m : Claim) × BothRead deck claim d m × (checked deck claim ≡ verdict_answer (verdict d m))
@@ -238,12 +239,12 @@ checked_both deck claim n = first (read_deck deck) refl (deck-numbered deck)
         → (e : Deck) × (m : Claim) × BothRead deck claim e m × (deck_checked (read_deck deck) claim ≡ verdict_answer (verdict e m))
     second d e (Got m) f h = (d, m, (e, f), ap (λ (o : Outcome Deck). deck_checked o claim) e ∙ ap (claim_checked d) f)
     second d e (Refused a) f h =
-        absurd (n (subst (λ (b : Answer). OfText (reply_of b).number) (sym (ap (λ (o : Outcome Deck). deck_checked o claim) e ∙ ap (claim_checked d) f)) (fault a h).0))
+        absurd (n (subst (λ (b : Answer). OfText (reply_of b).number) (sym (ap (λ (o : Outcome Deck). deck_checked o claim) e ∙ ap (claim_checked d) f)) ((fault a h).0, (fault a h).1)))
 
     first : (o : Outcome Deck) → read_deck deck ≡ o → Numbered o
         → (e : Deck) × (m : Claim) × BothRead deck claim e m × (deck_checked (read_deck deck) claim ≡ verdict_answer (verdict e m))
     first (Got d) e h = second d e (read_claim d.vars claim) refl (claim_numbered d.vars claim)
-    first (Refused a) e h = absurd (n (subst (λ (b : Answer). OfText (reply_of b).number) (sym (ap (λ (o : Outcome Deck). deck_checked o claim) e)) (fault a h).0))
+    first (Refused a) e h = absurd (n (subst (λ (b : Answer). OfText (reply_of b).number) (sym (ap (λ (o : Outcome Deck). deck_checked o claim) e)) ((fault a h).0, (fault a h).1)))
 
 -- The verdict of each number.
 pub verdict_0 : (v : Verdict) → (reply_of (verdict_answer v)).number ≡ 0 → v ≡ Breaking

@@ -21,8 +21,8 @@ fn mark(table: &[u8], from: usize) -> usize
     i
 }
 
-// Where entry n of a table begins; entry 0 is what stands before the first mark.
-pub fn entry(table: &[u8], n: u64) -> usize
+// Where entry n begins.
+fn entry(table: &[u8], n: u64) -> usize
     ensures { result ≤ length table.now }
 {
     let mut at = 0;
@@ -79,7 +79,17 @@ statement, or take out the blank card. A comment may stand between: it closes no
 @twentieth continuation
 A statement has its first card and at most 19 more, comments between them not counted. Fill
 columns 7 to 72 of each card, leave out blanks, or write a shorter expression.
-@
+@no statement of the form due here
+Statements stand in this order, in capital letters:
+  VARS n           n from 0 to 64; the variables are V0 to Vn-1
+  INIT bits        n digits 0 or 1, the first for V0; one INIT or more
+  Vi=expression    any number of them
+  PROP expression  one
+  END              and no statement behind it
+An expression is 0, 1, a variable, one of ~ X F G before an expression, or one of (e&e), (e+e),
+(eUe), (eWe). Each of & + U W has its own parentheses, and nothing else has: (V1) is wrong.
+Numbers have one or two digits and no leading zero. Blanks mean nothing. The statement at fault
+begins on the card shown and may go on behind it, past comments; a blank card ends it.
 @variable or state bit outside the set
 On cards VARS n gives the variables V0 to Vn-1; in frames the bits of 01 give them. Use these
 alone, on the left of an equation too, or make the set larger. A state has no other bit.
@@ -122,34 +132,6 @@ state that the step enters, or the one that it leaves. The last step returns to 
 @the property holds on the claimed run
 The claim is a run of the deck, and the property holds on it, so it shows no fault. Claim a run on
 which the property fails.
-@no statement of the form due here
-Statements stand in this order, in capital letters:
-  VARS n           n from 0 to 64; the variables are V0 to Vn-1
-  INIT bits        n digits 0 or 1, the first for V0; one INIT or more
-  Vi=expression    any number of them
-  PROP expression  one
-  END              and no statement after it
-Numbers have one or two digits and no leading zero. Blanks mean nothing. The statement begins on
-the card named and goes on over the cards that continue it, past comments. Mend it so that it is
-one that may stand here, put a missing one before it, or move it to its place in the order.
-@no expression after PROP or Vi=
-An expression is 0, 1, a variable, one of ~ X F G before an expression, or one of (e&e), (e+e),
-(eUe), (eWe). Each of & + U W has its own parentheses, and nothing else has. Numbers have one or
-two digits and no leading zero. An equation uses ~ & + only. Blanks mean nothing.
-The place is 100 times the card plus the column. What stands to the left of the mark, on earlier
-cards of the statement too, can still become an expression; what stands at the mark cannot follow
-it. So put in what is expected, or look for what is missing or too much to the left of the mark.
-Text after column 72 is not read: go on in column 7 of a further card that has a character other
-than blank and 0 in column 6.
-@INIT without its n digits 0 or 1
-INIT has a digit 0 or 1 for each of the n variables of VARS n, the first for V0, the second for V1
-and so on, and nothing else. Blanks between them mean nothing. Mend the digits, or the n of VARS. A
-card that is too short goes on in column 7 of one with a character other than blank and 0 in
-column 6.
-@a statement is missing
-A deck is VARS, one INIT or more, equations, PROP and END, in this order. Put the statements that
-are missing at the end of the text. See whether the file was cut off, and whether a C or * in
-column 1 makes a comment of a card that is none.
 ",
         number,
         behind,

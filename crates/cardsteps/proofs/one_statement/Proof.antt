@@ -4,29 +4,11 @@ use Rattle.cardsteps.proofs.StepLaws as laws
 use Rattle.cardsteps.proofs.one_statement.Statement.{statement}
 use Rattle.cardsteps.proofs.one_statement.Tie as tie
 
--- Seen from where it is known that no card continues the statement: the test, and the start.
-abbrev testing : tie.Else1 → tie.After-is-continued
-testing c = c.before
-
-abbrev start : tie.Else1 → tie.Start
-start c = (testing c).before.before.before.before.before.before.before.before.before
-
--- Seen from before the statement is read: its field.
-abbrev fielded : tie.After-statement-read-arg6 → tie.After-field
-fielded c = c.before.before.before.before.before.before
-
-abbrev alone : tie.After-statement-read-arg6 → tie.Else1
-alone c = (fielded c).before.before
-
--- Seen from before its refusal is located: where it is read.
-abbrev reading : tie.After-cards → tie.After-statement-read
-reading c = c.before.before.before.before.before.before.before.before.before.before.before.before.before
-
 add-next : tie.Need-overflow-add-next
-add-next c = let p = c.before.before.before.before.before.before.before.requires in omega (arith, p.2.within p.1)
+add-next c = omega (arith, c.before.before.before.before.before.before.before.requires.1.within c.before.before.before.before.before.before.before.requires.0)
 
 add-n : tie.Need-overflow-add-n
-add-n c = search rules
+add-n c = omega (arith, c.before.before.before.before.before.before.before.before.requires.1.near, c.before.before.before.before.before.before.before.before.requires.0)
 
 is-continued-requires : tie.Need-is-continued-requires
 is-continued-requires c κs = search (rules, laws.next_near)
@@ -68,13 +50,7 @@ field-requires : tie.Need-field-requires
 field-requires c κs = search rules
 
 statement-read-requires : tie.Need-statement-read-requires
-statement-read-requires c κs = let p = (start (alone c)).requires in laws.may_read_field _ _ p.1 p.2 _ (fielded c).field.ensures _ _ _ _ _ _ _ p.4 p.3
-
-slice-aggregate-located-read : tie.Need-slice-aggregate-located-read
-slice-aggregate-located-read c = search rules
-
-located-read-requires : tie.Need-located-read-requires
-located-read-requires c κs = let b = (reading c).before in let p = (start (alone b)).requires in laws.sited_alone _ _ p.1 p.2 _ (fielded b).field.ensures p.0
+statement-read-requires c κs = laws.may_read_field _ _ c.before.before.before.before.before.before.before.before.before.before.before.before.before.before.before.before.before.before.requires.0 c.before.before.before.before.before.before.before.before.before.before.before.before.before.before.before.before.before.before.requires.1 _ c.before.before.before.before.before.before.field.ensures _ _ _ _ _ _ _ c.before.before.before.before.before.before.before.before.before.before.before.before.before.before.before.before.before.before.requires.3 c.before.before.before.before.before.before.before.before.before.before.before.before.before.before.before.before.before.before.requires.2
 
 same-length-7 : tie.Need-same-length-7
 same-length-7 c = search rules
@@ -95,7 +71,7 @@ same-length-12 : tie.Need-same-length-12
 same-length-12 c = search rules
 
 returns-2 : tie.Need-returns-2
-returns-2 c = let r = reading c.before in let b = r.before in let p = (start (alone b)).requires in laws.read_alone _ _ p.1 p.2 _ (fielded b).field.ensures _ _ _ _ _ _ _ _ _ _ _ _ _ _ (testing (alone b)).is-continued.ensures (alone b).if1.left r.statement-read.ensures.1 r.statement-read.ensures.2 c.located-read.ensures
+returns-2 c = laws.read_alone _ _ c.before.before.before.before.before.before.before.before.before.before.before.before.before.before.before.before.before.before.before.before.before.before.before.before.before.before.before.before.before.before.before.requires.0 c.before.before.before.before.before.before.before.before.before.before.before.before.before.before.before.before.before.before.before.before.before.before.before.before.before.before.before.before.before.before.before.requires.1 _ c.before.before.before.before.before.before.before.before.before.before.before.before.before.before.before.before.before.before.before.field.ensures _ _ _ _ _ _ _ _ _ _ _ _ _ c.before.before.before.before.before.before.before.before.before.before.before.before.before.before.before.before.before.before.before.before.before.before.is-continued.ensures c.before.before.before.before.before.before.before.before.before.before.before.before.before.before.before.before.before.before.before.before.before.if1.false c.before.before.before.before.before.before.before.before.before.before.before.before.statement-read.ensures.1 c.before.before.before.before.before.before.before.before.before.before.before.before.statement-read.ensures.2
 
 pub one-statement-spec : {M : Type 1} → statement M
 one-statement-spec =
@@ -117,8 +93,6 @@ one-statement-spec =
     part-field-end
     field-requires
     statement-read-requires
-    slice-aggregate-located-read
-    located-read-requires
     same-length-7
     same-length-8
     same-length-9
