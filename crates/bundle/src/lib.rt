@@ -1,37 +1,40 @@
-// A bundle of cases read from a descriptor piece by piece. Only safety and bounds are promised here: what the cases
-// reply is compared with stored replies.
+// A bundle of cases read piece by piece. Only safety and bounds are promised here: what the cases reply is compared
+// with stored replies.
+#![tactic(auto)]
+
 ghost use Rattle.std.specs.Prelude.{◌≤◌, length};
 ghost use Rattle.io.specs.Counts.{IsPrefixLen};
 
 use replylines::{put, wide};
+use std::io::Read;
 
 // The bytes of a buffer that hold what was read, and how many of them were taken.
-#[derive(Drop)]
+#[derive(Clone, Copy)]
 pub struct Stream {
     pub at: usize,
     pub end: usize,
 }
 
-#[derive(Drop)]
+#[derive(Clone, Copy)]
 pub struct Byte {
     pub stream: Stream,
     pub code: u64,
 }
 
-#[derive(Drop)]
+#[derive(Clone, Copy)]
 pub struct Number {
     pub stream: Stream,
     pub value: u64,
 }
 
 // A text that was read: the first bytes of the buffer lent for it.
-#[derive(Drop)]
+#[derive(Clone, Copy)]
 pub struct Text {
     pub stream: Stream,
     pub length: usize,
 }
 
-#[derive(Drop)]
+#[derive(Clone, Copy)]
 struct Head {
     stream: Stream,
     operation: u64,
@@ -39,7 +42,7 @@ struct Head {
     room: usize,
 }
 
-#[derive(Drop)]
+#[derive(Clone, Copy)]
 pub struct Case {
     pub stream: Stream,
     pub operation: u64,
@@ -83,8 +86,8 @@ fn first_byte(buffer: &[u8], n: usize) -> Byte {
     }
 }
 
-// The next byte of the descriptor, or END behind the last.
-pub fn next_byte(fd: i32, buffer: &mut [u8], s: Stream) -> Byte {
+// The next byte of the input, or END behind the last.
+pub fn next_byte<R: Read>(reader: &mut R, buffer: &mut [u8], s: Stream) -> Byte {
     let at = s.at;
     let end = s.end;
     if at < end {
@@ -98,8 +101,10 @@ pub fn next_byte(fd: i32, buffer: &mut [u8], s: Stream) -> Byte {
             };
         }
     }
-    let got = libc::read(fd, buffer);
-    let n = io::count(got, buffer);
+    let n = match reader.read(buffer) {
+        Ok(n) => n,
+        Err(_) => 0,
+    };
     first_byte(buffer, n)
 }
 
@@ -121,12 +126,12 @@ fn digit(code: u64) -> u64 {
 }
 
 // A number of k hexadecimal digits, modulo 2 to the 64th.
-pub fn next_number(fd: i32, buffer: &mut [u8], s: Stream, k: usize) -> Number {
+pub fn next_number<R: Read>(reader: &mut R, buffer: &mut [u8], s: Stream, k: usize) -> Number {
     let mut stream = s;
     let mut value = 0u64;
     let mut left = k;
     while left > 0 {
-        let b = next_byte(fd, buffer, stream);
+        let b = next_byte(reader, buffer, stream);
         stream = b.stream;
         value = std::num::wrapping_add_u64(value << 4, digit(b.code));
         left -= 1;
@@ -137,8 +142,15 @@ pub fn next_number(fd: i32, buffer: &mut [u8], s: Stream, k: usize) -> Number {
     }
 }
 
-// The next n bytes of the descriptor, stored from `at` on.
-fn next_bytes(fd: i32, buffer: &mut [u8], s: Stream, n: u64, text: &mut [u8], at: usize) -> Text
+// The next n bytes of the input, stored from `at` on.
+fn next_bytes<R: Read>(
+    reader: &mut R,
+    buffer: &mut [u8],
+    s: Stream,
+    n: u64,
+    text: &mut [u8],
+    at: usize,
+) -> Text
     requires { at ≤ length text.old }
     ensures { result.length ≤ length text.new }
 {
@@ -146,7 +158,7 @@ fn next_bytes(fd: i32, buffer: &mut [u8], s: Stream, n: u64, text: &mut [u8], at
     let mut end = at;
     let mut left = n;
     while left > 0 {
-        let b = next_byte(fd, buffer, stream);
+        let b = next_byte(reader, buffer, stream);
         stream = b.stream;
         end = put(text, end, (b.code % 256) as u8);
         left -= 1;
@@ -190,13 +202,19 @@ fn repeated(text: &mut [u8], from: usize, to: usize, times: u64) -> usize
 }
 
 // The next segment, stored from `at` on: so many bytes, so many times.
-fn next_segment(fd: i32, buffer: &mut [u8], s: Stream, text: &mut [u8], at: usize) -> Text
+fn next_segment<R: Read>(
+    reader: &mut R,
+    buffer: &mut [u8],
+    s: Stream,
+    text: &mut [u8],
+    at: usize,
+) -> Text
     requires { at ≤ length text.old }
     ensures { result.length ≤ length text.new }
 {
-    let times = next_number(fd, buffer, s, 4);
-    let size = next_number(fd, buffer, times.stream, 4);
-    let t = next_bytes(fd, buffer, size.stream, size.value, text, at);
+    let times = next_number(reader, buffer, s, 4);
+    let size = next_number(reader, buffer, times.stream, 4);
+    let t = next_bytes(reader, buffer, size.stream, size.value, text, at);
     let stream = t.stream;
     let end = repeated(text, at, t.length, times.value);
     Text {
@@ -206,15 +224,15 @@ fn next_segment(fd: i32, buffer: &mut [u8], s: Stream, text: &mut [u8], at: usiz
 }
 
 // The next text, as far as it has room.
-pub fn next_text(fd: i32, buffer: &mut [u8], s: Stream, text: &mut [u8]) -> Text
+pub fn next_text<R: Read>(reader: &mut R, buffer: &mut [u8], s: Stream, text: &mut [u8]) -> Text
     ensures { result.length ≤ length text.new }
 {
-    let segments = next_number(fd, buffer, s, 2);
+    let segments = next_number(reader, buffer, s, 2);
     let mut stream = segments.stream;
     let mut end = 0;
     let mut left = segments.value;
     while left > 0 {
-        let t = next_segment(fd, buffer, stream, text, end);
+        let t = next_segment(reader, buffer, stream, text, end);
         stream = t.stream;
         end = t.length;
         left -= 1;
@@ -233,12 +251,12 @@ fn room_of(n: u64) -> usize
 }
 
 // What stands before the texts of a case; the operation is END behind the last case.
-fn next_head(fd: i32, buffer: &mut [u8], s: Stream) -> Head
+fn next_head<R: Read>(reader: &mut R, buffer: &mut [u8], s: Stream) -> Head
     ensures { result.room ≤ 65520 }
 {
-    let operation = next_byte(fd, buffer, s);
-    let set = next_number(fd, buffer, operation.stream, 16);
-    let room = next_number(fd, buffer, set.stream, 8);
+    let operation = next_byte(reader, buffer, s);
+    let set = next_number(reader, buffer, operation.stream, 16);
+    let room = next_number(reader, buffer, set.stream, 8);
     let stream = room.stream;
     Head {
         stream: stream,
@@ -249,13 +267,19 @@ fn next_head(fd: i32, buffer: &mut [u8], s: Stream) -> Head
 }
 
 // The next case, its texts in the buffers lent for them.
-pub fn next_case(fd: i32, buffer: &mut [u8], s: Stream, deck: &mut [u8], claim: &mut [u8]) -> Case
+pub fn next_case<R: Read>(
+    reader: &mut R,
+    buffer: &mut [u8],
+    s: Stream,
+    deck: &mut [u8],
+    claim: &mut [u8],
+) -> Case
     ensures { (result.room ≤ 65520) × IsPrefixLen result.deck deck.new × IsPrefixLen result.claim claim.new }
 {
-    let head = next_head(fd, buffer, s);
-    let first = next_text(fd, buffer, head.stream, deck);
-    let second = next_text(fd, buffer, first.stream, claim);
-    let last = next_byte(fd, buffer, second.stream);
+    let head = next_head(reader, buffer, s);
+    let first = next_text(reader, buffer, head.stream, deck);
+    let second = next_text(reader, buffer, first.stream, claim);
+    let last = next_byte(reader, buffer, second.stream);
     let stream = last.stream;
     Case {
         stream: stream,

@@ -1,4 +1,6 @@
 // The command that its words are: see program.
-fn main() {
-    program::run();
+#![tactic(auto)]
+
+fn main(rt: HostRuntime) {
+    program::run(&rt);
 }

@@ -1,10 +1,14 @@
 // The program: its help and its commands. What is printed is printing's to promise and explaining's to say; where
 // nothing is printed, a message on standard error says what to do.
-use channels::{is_word, read_set, read_standard, read_text, room, say_unwritten, write_reply};
-use libc::{STDERR_FILENO, STDOUT_FILENO};
+#![tactic(auto)]
+
+use channels::{
+    is_word, read_set, read_standard, read_text, room, say_unwritten, words, write_reply,
+};
+use std::rt::{Env, Files};
 
 // What is asked of one text.
-#[derive(Drop)]
+#[derive(Clone, Copy)]
 enum Asked {
     Nothing,
     CardsDeck,
@@ -18,10 +22,7 @@ enum Asked {
 // ---- help
 
 // The commands, one a line.
-fn write_commands(fd: i32) -> bool {
-    io::write_all(
-        fd,
-        b"\
+const COMMANDS: &str = "\
 micaplume                              cards on standard input: prints the pieces
 micaplume deck cards|frames FILE       prints the deck as frames
 micaplume pieces cards|frames FILE     prints the pieces
@@ -32,24 +33,23 @@ micaplume explain check DECK CLAIM     says in words what the claim comes to
 micaplume help                         prints these lines
 FILE, DECK and CLAIM are names of files; one of them may be - for standard input. SET is sixteen
 hexadecimal digits, bit i for Vi. A refusal is one frame FF: number, text, place.
-",
-    )
+";
+
+// Writes them, and answers whether they are written.
+fn write_commands<R: Print>(rt: &R) -> bool {
+    rt.write_all(COMMANDS.as_bytes()).is_ok()
 }
 
-fn help() {
-    let is_written = write_commands(STDOUT_FILENO);
+fn help<R: Print + Eprint>(rt: &R) {
+    let is_written = write_commands(rt);
     if !is_written {
-        say_unwritten();
+        say_unwritten(rt);
     }
 }
 
 // Says that the words of the command line are no command, and which are.
-fn say_wrong() {
-    io::write_all(
-        STDERR_FILENO,
-        b"micaplume: these words are no command. Use one of:\n",
-    );
-    write_commands(STDERR_FILENO);
+fn say_wrong<R: Eprint>(rt: &R) {
+    let _ = eprint!(rt; "micaplume: these words are no command. Use one of:\n{COMMANDS}");
 }
 
 // ---- replies
@@ -67,56 +67,55 @@ fn put_answer(asked: Asked, text: &[u8], out: &mut [u8]) -> usize {
     }
 }
 
-fn answer(asked: Asked, text: &[u8]) {
+fn answer<R: Print + Eprint>(rt: &R, asked: Asked, text: &[u8]) {
     let mut out = io::large_buffer();
     let n = put_answer(asked, text, &mut out);
-    write_reply(&out, n);
+    write_reply(rt, &out, n);
 }
 
 // Cards on standard input: the pieces.
-fn standard() {
+fn standard<R: Input + Print + Eprint>(rt: &R) {
     let mut text = room();
-    let input = read_standard(&mut text);
+    let input = read_standard(rt, &mut text);
     if input.failed {
         return;
     }
     let n = input.length;
-    answer(Asked::CardsPieces, &text[..n]);
+    answer(rt, Asked::CardsPieces, &text[..n]);
 }
 
 // A command on the text that word 3 names.
-fn on_text(asked: Asked) {
+fn on_text<R: Files + Input + Env + Print + Eprint>(rt: &R, asked: Asked) {
     let mut text = room();
-    let input = read_text(3, &mut text);
+    let input = read_text(rt, 3, &mut text);
     if input.failed {
         return;
     }
     let n = input.length;
-    answer(asked, &text[..n]);
+    answer(rt, asked, &text[..n]);
 }
 
 // The cone of a set in a deck of frames.
-fn answer_cone(text: &[u8], set: u64) {
+fn answer_cone<R: Print + Eprint>(rt: &R, text: &[u8], set: u64) {
     let mut out = io::large_buffer();
     let n = printing::cone(text, set, &mut out);
-    write_reply(&out, n);
+    write_reply(rt, &out, n);
 }
 
-fn on_cone() {
-    let lines::Number::Good(set) = read_set(3) else {
-        io::write_all(
-            STDERR_FILENO,
-            b"micaplume: give the set as sixteen digits 0 to 9 and A to F, bit i for Vi: 0000000000000005 is V0 and V2\n",
+fn on_cone<R: Files + Input + Env + Print + Eprint>(rt: &R) {
+    let lines::Number::Good(set) = read_set(rt, 3) else {
+        let _ = eprintln!(rt;
+            "micaplume: give the set as sixteen digits 0 to 9 and A to F, bit i for Vi: 0000000000000005 is V0 and V2"
         );
         return;
     };
     let mut text = room();
-    let input = read_text(2, &mut text);
+    let input = read_text(rt, 2, &mut text);
     if input.failed {
         return;
     }
     let n = input.length;
-    answer_cone(&text[..n], set);
+    answer_cone(rt, &text[..n], set);
 }
 
 // The verdict on a claim, in words or as a frame.
@@ -127,126 +126,125 @@ fn put_verdict<'a>(explained: bool, deck: &'a [u8], claim: &'a [u8], out: &mut [
     printing::check(deck, claim, out)
 }
 
-fn answer_check<'a>(explained: bool, deck: &'a [u8], claim: &'a [u8]) {
+fn answer_check<'a, R: Print + Eprint>(rt: &R, explained: bool, deck: &'a [u8], claim: &'a [u8]) {
     let mut out = io::large_buffer();
     let n = put_verdict(explained, deck, claim, &mut out);
-    write_reply(&out, n);
+    write_reply(rt, &out, n);
 }
 
 // The deck that word i names, and the claim that word j names.
-fn on_claim(explained: bool, i: usize, j: usize) {
-    if is_word(i, b"-") {
-        if is_word(j, b"-") {
-            io::write_all(
-                STDERR_FILENO,
-                b"micaplume: deck and claim cannot both be read from standard input; name a file for one of them\n",
+fn on_claim<R: Files + Input + Env + Print + Eprint>(rt: &R, explained: bool, i: usize, j: usize) {
+    if is_word(rt, i, b"-") {
+        if is_word(rt, j, b"-") {
+            let _ = eprintln!(rt;
+                "micaplume: deck and claim cannot both be read from standard input; name a file for one of them"
             );
             return;
         }
     }
     let mut deck = room();
-    let first = read_text(i, &mut deck);
+    let first = read_text(rt, i, &mut deck);
     if first.failed {
         return;
     }
     let mut claim = room();
-    let second = read_text(j, &mut claim);
+    let second = read_text(rt, j, &mut claim);
     if second.failed {
         return;
     }
     let n = first.length;
     let m = second.length;
-    answer_check(explained, &deck[..n], &claim[..m]);
+    answer_check(rt, explained, &deck[..n], &claim[..m]);
 }
 
 // ---- commands
 
 // What the first word asks of cards.
-fn asked_of_cards() -> Asked {
-    if is_word(1, b"deck") {
+fn asked_of_cards<R: Env>(rt: &R) -> Asked {
+    if is_word(rt, 1, b"deck") {
         return Asked::CardsDeck;
     }
-    if is_word(1, b"pieces") {
+    if is_word(rt, 1, b"pieces") {
         return Asked::CardsPieces;
     }
-    if is_word(1, b"explain") {
+    if is_word(rt, 1, b"explain") {
         return Asked::CardsExplained;
     }
     Asked::Nothing
 }
 
 // What the first word asks of frames.
-fn asked_of_frames() -> Asked {
-    if is_word(1, b"deck") {
+fn asked_of_frames<R: Env>(rt: &R) -> Asked {
+    if is_word(rt, 1, b"deck") {
         return Asked::FramesDeck;
     }
-    if is_word(1, b"pieces") {
+    if is_word(rt, 1, b"pieces") {
         return Asked::FramesPieces;
     }
-    if is_word(1, b"explain") {
+    if is_word(rt, 1, b"explain") {
         return Asked::FramesExplained;
     }
     Asked::Nothing
 }
 
 // What the first two words ask of a text.
-fn wanted() -> Asked {
-    if is_word(2, b"cards") {
-        return asked_of_cards();
+fn wanted<R: Env>(rt: &R) -> Asked {
+    if is_word(rt, 2, b"cards") {
+        return asked_of_cards(rt);
     }
-    if is_word(2, b"frames") {
-        return asked_of_frames();
+    if is_word(rt, 2, b"frames") {
+        return asked_of_frames(rt);
     }
     Asked::Nothing
 }
 
 // A command of three words.
-fn three_words() {
-    if is_word(1, b"cone") {
-        on_cone();
+fn three_words<R: Files + Input + Env + Print + Eprint>(rt: &R) {
+    if is_word(rt, 1, b"cone") {
+        on_cone(rt);
         return;
     }
-    if is_word(1, b"check") {
-        on_claim(false, 2, 3);
+    if is_word(rt, 1, b"check") {
+        on_claim(rt, false, 2, 3);
         return;
     }
-    match wanted() {
-        Asked::Nothing => say_wrong(),
-        a => on_text(a),
+    match wanted(rt) {
+        Asked::Nothing => say_wrong(rt),
+        a => on_text(rt, a),
     }
 }
 
 // A command of four words.
-fn four_words() {
-    if is_word(1, b"explain") {
-        if is_word(2, b"check") {
-            on_claim(true, 3, 4);
+fn four_words<R: Files + Input + Env + Print + Eprint>(rt: &R) {
+    if is_word(rt, 1, b"explain") {
+        if is_word(rt, 2, b"check") {
+            on_claim(rt, true, 3, 4);
             return;
         }
     }
-    say_wrong();
+    say_wrong(rt);
 }
 
 // The command that the words of the command line are.
-pub fn run() {
-    let words = os::arg_count();
-    if words < 2 {
-        standard();
+pub fn run<R: Files + Input + Env + Print + Eprint>(rt: &R) {
+    let count = words(rt, 6);
+    if count < 2 {
+        standard(rt);
         return;
     }
-    if words == 2 {
-        if is_word(1, b"help") {
-            help();
+    if count == 2 {
+        if is_word(rt, 1, b"help") {
+            help(rt);
             return;
         }
     }
-    if words == 4 {
-        three_words();
+    if count == 4 {
+        three_words(rt);
         return;
     }
-    if words == 5 {
-        four_words();
+    if count == 5 {
+        four_words(rt);
         return;
     }
-    say_wrong();
+    say_wrong(rt);
 }

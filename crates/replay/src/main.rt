@@ -1,5 +1,7 @@
 // Runs the cases of a bundle on standard input through the public operations, and prints a line for each reply.
-use libc::{STDERR_FILENO, STDIN_FILENO, STDOUT_FILENO};
+#![tactic(auto)]
+
+use std::io::Read;
 
 // The operations of a case, and the code that closes the bundle.
 const READ_CARDS: u64 = 100;
@@ -101,7 +103,8 @@ fn performed<'a>(
 }
 
 // Runs a case and prints its line; the buffer has room for what is lent and what the digest covers behind it.
-fn run_case<'a>(
+fn run_case<'a, P: Print>(
+    rt: &P,
     operation: u64,
     set: u64,
     room: usize,
@@ -120,7 +123,7 @@ fn run_case<'a>(
     let r = performed(operation, set, deck, claim, &mut out[..room]);
     let digest = replylines::digest(&out[..covered]);
     replylines::print_line(
-        STDOUT_FILENO,
+        rt,
         replylines::Line {
             operation: operation,
             number: r.number,
@@ -134,21 +137,23 @@ fn run_case<'a>(
 }
 
 // Where the next case begins, and whether there is one.
-#[derive(Drop)]
+#[derive(Clone, Copy)]
 struct Turn {
     stream: bundle::Stream,
     more: bool,
 }
 
 // Reads a case and runs it.
-fn next(
+fn next<R: Read, P: Print + Eprint>(
+    rt: &P,
+    reader: &mut R,
     buffer: &mut [u8],
     s: bundle::Stream,
     deck: &mut [u8],
     claim: &mut [u8],
     out: &mut [u8],
 ) -> Turn {
-    let c = bundle::next_case(STDIN_FILENO, buffer, s, deck, claim);
+    let c = bundle::next_case(reader, buffer, s, deck, claim);
     let stream = c.stream;
     let operation = c.operation;
     if operation == CLOSE {
@@ -158,7 +163,7 @@ fn next(
         };
     }
     if !is_operation(operation) {
-        io::write_all(STDERR_FILENO, b"replay: a case without an operation\n");
+        let _ = eprintln!(rt; "replay: a case without an operation");
         return Turn {
             stream: stream,
             more: false,
@@ -166,7 +171,7 @@ fn next(
     }
     let n = c.deck;
     let m = c.claim;
-    let more = run_case(operation, c.set, c.room, &deck[..n], &claim[..m], out);
+    let more = run_case(rt, operation, c.set, c.room, &deck[..n], &claim[..m], out);
     Turn {
         stream: stream,
         more: more,
@@ -174,11 +179,18 @@ fn next(
 }
 
 // Nothing says that the input ends, so the turns count down from a number that no run uses up.
-fn replay(buffer: &mut [u8], deck: &mut [u8], claim: &mut [u8], out: &mut [u8]) {
+fn replay<R: Read, P: Print + Eprint>(
+    rt: &P,
+    reader: &mut R,
+    buffer: &mut [u8],
+    deck: &mut [u8],
+    claim: &mut [u8],
+    out: &mut [u8],
+) {
     let mut stream = bundle::begun();
     let mut turns = u64::MAX;
     while turns > 0 {
-        let t = next(buffer, stream, deck, claim, out);
+        let t = next(rt, reader, buffer, stream, deck, claim, out);
         if !t.more {
             return;
         }
@@ -187,10 +199,18 @@ fn replay(buffer: &mut [u8], deck: &mut [u8], claim: &mut [u8], out: &mut [u8]) 
     }
 }
 
-fn main() {
+fn main(rt: HostRuntime) {
+    let mut reader = rt.reader();
     let mut buffer = io::large_buffer();
     let mut deck = io::large_buffer();
     let mut claim = io::large_buffer();
     let mut out = io::large_buffer();
-    replay(&mut buffer, &mut deck, &mut claim, &mut out);
+    replay(
+        &rt,
+        &mut reader,
+        &mut buffer,
+        &mut deck,
+        &mut claim,
+        &mut out,
+    );
 }

@@ -1,5 +1,7 @@
 // The buffer before a case, the digest of a buffer, and the line of a reply. Only safety and bounds are promised here:
 // the lines are compared with stored ones.
+#![tactic(auto)]
+
 ghost use Rattle.std.specs.Prelude.{◌≤◌, length};
 ghost use Rattle.io.specs.Counts.{IsPrefixLen};
 
@@ -49,7 +51,7 @@ pub fn digest(bytes: &[u8]) -> u64 {
 }
 
 // What a case replies.
-#[derive(Drop)]
+#[derive(Clone, Copy)]
 pub struct Line {
     pub operation: u64,
     pub number: u64,
@@ -120,8 +122,8 @@ fn put_line(out: &mut [u8], l: Line) -> usize
 }
 
 // Writes the line of a reply, and answers whether it is written.
-pub fn print_line(fd: i32, l: Line) -> bool {
+pub fn print_line<R: Print>(rt: &R, l: Line) -> bool {
     let mut line = [0u8; 128];
     let n = put_line(&mut line, l);
-    io::write_all(fd, &line[..n])
+    rt.write_all(&line[..n]).is_ok()
 }
