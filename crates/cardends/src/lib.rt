@@ -1,4 +1,6 @@
 // What comes behind `END`: the set of the first variables, 15, then the deck.
+#![tactic(auto)]
+
 ghost use Rattle.std.specs.Prelude.{◌≡◌, ◌≤◌};
 ghost use Rattle.logic.specs.Decks.{base};
 ghost use Rattle.decks.specs.Readings.{complete};

@@ -15,7 +15,7 @@ use Rattle.grammar.specs.declared.Word.{Word}
 use Rattle.cardlines.specs.declared.Held.{Held}
 use Rattle.cardlines.specs.declared.StatementRead.{StatementRead}
 use Rattle.cardlines.specs.Held.{due_number, Holds, Came, refused_as, InitWord}
-use Rattle.cardlines.proofs.Laws.{not_true, not_false, came_refused, words_none, words_some, on_none, on_some}
+use Rattle.cardlines.proofs.Laws.{not-true, not-false, came_refused, words_none, words_some, on_none, on_some}
 
 either_is : (n : ℕ) (cs : List ℕ) (t : Typed) → equation_or_prop n cs t ≡ on_word (86 ∷ []) cs (λ rs. equation_statement n rs t) (on_word (80 ∷ 82 ∷ 79 ∷ 80 ∷ []) cs (λ rs. prop_statement n rs t) (Refused (NotDue n)))
 unfolding equation_or_prop bytes
@@ -41,14 +41,14 @@ module _ (chars : List ℕ) (end n : ℕ) (h : Held) (v : Word) (Vs : Words char
     pub either_none : (r : StatementRead) → not w.found ≡ true → r ≡ refused_as (NotDue n) → Came (equation_or_prop n (ahead chars 0 end) s.typed) r inits lefts ends nodes' property
     either_none r g q =
         came_refused (equation_or_prop n (ahead chars 0 end) s.typed) (NotDue n) r inits lefts ends nodes' property
-        (no_equation_lem ∙ on_none (80 ∷ 82 ∷ 79 ∷ 80 ∷ []) (ahead chars 0 end) (λ rs. prop_statement n rs s.typed) (Refused (NotDue n)) (words_none chars 0 end (80 ∷ 82 ∷ 79 ∷ 80 ∷ []) w W (not_true w.found g))) q
+        (no_equation_lem ∙ on_none (80 ∷ 82 ∷ 79 ∷ 80 ∷ []) (ahead chars 0 end) (λ rs. prop_statement n rs s.typed) (Refused (NotDue n)) (words_none chars 0 end (80 ∷ 82 ∷ 79 ∷ 80 ∷ []) w W (not-true w.found g))) q
 
     pub either_prop : (r : StatementRead) (out : List ℕ) → not w.found ≡ false
         → ((s : Sofar) (inits lefts ends nodes' : List ℕ) → Holds s h inits lefts ends nodes' property → Came (prop_statement n (ahead chars w.next end) s.typed) r inits lefts ends nodes' out)
         → Came (equation_or_prop n (ahead chars 0 end) s.typed) r inits lefts ends nodes' out
     either_prop r out g c =
         subst (λ (o : Outcome Sofar). Came o r inits lefts ends nodes' out)
-        (sym (no_equation_lem ∙ on_some (80 ∷ 82 ∷ 79 ∷ 80 ∷ []) (ahead chars 0 end) (λ rs. prop_statement n rs s.typed) (Refused (NotDue n)) (ahead chars w.next end) (words_some chars 0 end (80 ∷ 82 ∷ 79 ∷ 80 ∷ []) w W (not_false w.found g))))
+        (sym (no_equation_lem ∙ on_some (80 ∷ 82 ∷ 79 ∷ 80 ∷ []) (ahead chars 0 end) (λ rs. prop_statement n rs s.typed) (Refused (NotDue n)) (ahead chars w.next end) (words_some chars 0 end (80 ∷ 82 ∷ 79 ∷ 80 ∷ []) w W (not-false w.found g))))
         (c s inits lefts ends nodes' H)
 
 -- ---- by what is due

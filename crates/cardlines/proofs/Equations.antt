@@ -27,7 +27,7 @@ use Rattle.cardlines.specs.declared.Held.{Held}
 use Rattle.cardlines.specs.declared.StatementRead.{StatementRead}
 use Rattle.cardlines.specs.declared.ExprRead.{ExprRead}
 use Rattle.cardlines.specs.Held.{Small, Holds, Came, refused_as, ExprCame, WithCame}
-use Rattle.cardlines.proofs.Laws.{not_true, not_false, came_refused, words_none, words_some, numbers_none, numbers-some}
+use Rattle.cardlines.proofs.Laws.{not-true, not-false, came_refused, words_none, words_some, numbers_none, numbers-some}
 use Rattle.cardlines.proofs.Written.{has_first, has_not_first}
 
 -- ---- 9, 10, 13 and 14 of an equation
@@ -156,27 +156,27 @@ module _ (chars : List ℕ) (at end n : ℕ) (h : Held) (v : Digits) (N : Number
   pub equation_number : (r : StatementRead) (lefts'' ends'' nodes'' : List ℕ) → not v.ok ≡ true → r ≡ refused_as (NotDue n) → Came (equation_statement n (ahead chars at end) s.typed) r inits lefts'' ends'' nodes'' property
   unfolding equation_statement
   equation_number r lefts'' ends'' nodes'' f q =
-      let z : equation_statement n (ahead chars at end) s.typed ≡ Refused (NotDue n) = simp (numbers_none chars at end v N (not_true v.ok f), equation_statement) in
+      let z : equation_statement n (ahead chars at end) s.typed ≡ Refused (NotDue n) = simp (numbers_none chars at end v N (not-true v.ok f), equation_statement) in
       came_refused (equation_statement n (ahead chars at end) s.typed) (NotDue n) r inits lefts'' ends'' nodes'' property z q
 
   module _ (f : not v.ok ≡ false) (w : Word) (W : Words chars v.next end (61 ∷ []) w) where
     pub equation_sign : (r : StatementRead) (lefts'' ends'' nodes'' : List ℕ) → not w.found ≡ true → r ≡ refused_as (NotDue n) → Came (equation_statement n (ahead chars at end) s.typed) r inits lefts'' ends'' nodes'' property
     unfolding equation_statement
     equation_sign r lefts'' ends'' nodes'' g q =
-        let b : behind (bytes "=") (ahead chars v.next end) ≡ none = ap (λ (l : List ℕ). behind l (ahead chars v.next end)) sign_as ∙ words_none chars v.next end (61 ∷ []) w W (not_true w.found g) in
-        let z : equation_statement n (ahead chars at end) s.typed ≡ Refused (NotDue n) = simp (numbers-some chars at end v N (not_false v.ok f), b, equation_statement) in
+        let b : behind (bytes "=") (ahead chars v.next end) ≡ none = ap (λ (l : List ℕ). behind l (ahead chars v.next end)) sign_as ∙ words_none chars v.next end (61 ∷ []) w W (not-true w.found g) in
+        let z : equation_statement n (ahead chars at end) s.typed ≡ Refused (NotDue n) = simp (numbers-some chars at end v N (not-false v.ok f), b, equation_statement) in
         came_refused (equation_statement n (ahead chars at end) s.typed) (NotDue n) r inits lefts'' ends'' nodes'' property z q
 
     module _ (g : not w.found ≡ false) (e : ExprRead) (scratch : List ℕ) (E : ExprCame h.count (whole_expr n (ahead chars w.next end)) e scratch) where
       equation_read : equation_statement n (ahead chars at end) s.typed ≡ afterwards (whole_expr n (ahead chars w.next end)) (λ x. with_equation n s.typed (record { left = v.value; right = x }))
       unfolding equation_statement
       equation_read =
-          let b : behind (bytes "=") (ahead chars v.next end) ≡ some (ahead chars w.next end) = ap (λ (l : List ℕ). behind l (ahead chars v.next end)) sign_as ∙ words_some chars v.next end (61 ∷ []) w W (not_false w.found g) in
-          simp (numbers-some chars at end v N (not_false v.ok f), b, equation_statement)
+          let b : behind (bytes "=") (ahead chars v.next end) ≡ some (ahead chars w.next end) = ap (λ (l : List ℕ). behind l (ahead chars v.next end)) sign_as ∙ words_some chars v.next end (61 ∷ []) w W (not-false w.found g) in
+          simp (numbers-some chars at end v N (not-false v.ok f), b, equation_statement)
 
       pub equation_stopped : (r : StatementRead) (lefts'' ends'' nodes'' : List ℕ) → not e.fine ≡ true → r ≡ refused_as e.answer → Came (equation_statement n (ahead chars at end) s.typed) r inits lefts'' ends'' nodes'' property
       equation_stopped r lefts'' ends'' nodes'' k q =
-          let o : whole_expr n (ahead chars w.next end) ≡ Refused e.answer = expr_stopped h.count (whole_expr n (ahead chars w.next end)) e scratch E (not_true e.fine k) in
+          let o : whole_expr n (ahead chars w.next end) ≡ Refused e.answer = expr_stopped h.count (whole_expr n (ahead chars w.next end)) e scratch E (not-true e.fine k) in
           came_refused (equation_statement n (ahead chars at end) s.typed) e.answer r inits lefts'' ends'' nodes'' property
           (equation_read ∙ ap (λ (y : Outcome Expr). afterwards y (λ x. with_equation n s.typed (record { left = v.value; right = x }))) o) q
 
@@ -184,7 +184,7 @@ module _ (chars : List ℕ) (at end n : ℕ) (h : Held) (v : Digits) (N : Number
           → ((s : Sofar) (inits property : List ℕ) → Holds s h inits lefts ends nodes' property → WithCame n s.typed v.value e scratch r inits lefts'' ends'' nodes'' property)
           → Came (equation_statement n (ahead chars at end) s.typed) r inits lefts'' ends'' nodes'' property
       equation_with r lefts'' ends'' nodes'' k c =
-          let t = expr_taken h.count (whole_expr n (ahead chars w.next end)) e scratch E (not_false e.fine k) in
+          let t = expr_taken h.count (whole_expr n (ahead chars w.next end)) e scratch E (not-false e.fine k) in
           let count : h.count ≡ s.typed.count = ap (λ (y : Held). y.count) H.held_is in
           let E' : ExprCame s.typed.count (Got t.0) e scratch = subst (λ (j : ℕ). ExprCame j (Got t.0) e scratch) count t.2 in
           subst (λ (o : Outcome Sofar). Came o r inits lefts'' ends'' nodes'' property)
@@ -200,13 +200,13 @@ module _ (chars : List ℕ) (at end n : ℕ) (h : Held) (e : ExprRead) (scratch 
   pub prop_stopped : (r : StatementRead) (out : List ℕ) → not e.fine ≡ true → r ≡ refused_as e.answer → Came (prop_statement n (ahead chars at end) s.typed) r inits lefts ends nodes' out
   unfolding prop_statement
   prop_stopped r out k q =
-      let o : whole_expr n (ahead chars at end) ≡ Refused e.answer = expr_stopped h.count (whole_expr n (ahead chars at end)) e scratch E (not_true e.fine k) in
+      let o : whole_expr n (ahead chars at end) ≡ Refused e.answer = expr_stopped h.count (whole_expr n (ahead chars at end)) e scratch E (not-true e.fine k) in
       let z : prop_statement n (ahead chars at end) s.typed ≡ Refused e.answer = simp (o, prop_statement) in
       came_refused (prop_statement n (ahead chars at end) s.typed) e.answer r inits lefts ends nodes' out z q
 
   module _ (k : not e.fine ≡ false) where
     got : (x : Expr) × (whole_expr n (ahead chars at end) ≡ Got x) × ExprCame h.count (Got x) e scratch
-    got = expr_taken h.count (whole_expr n (ahead chars at end)) e scratch E (not_false e.fine k)
+    got = expr_taken h.count (whole_expr n (ahead chars at end)) e scratch E (not-false e.fine k)
 
     among : inside (written got.0) (first_vars s.typed.count) ≡ e.within
     among = ap (λ (y : Held). inside (written got.0) (first_vars y.count)) (sym H.held_is) ∙ sym (ap (λ (y : ExprRead). y.within) got.2.0)

@@ -26,13 +26,13 @@ use Rattle.cardlines.specs.declared.Held.{Held}
 use Rattle.cardlines.specs.declared.StatementRead.{StatementRead}
 use Rattle.cardlines.specs.Held.{due_number, Small, Holds, PropertyHeld, Came, refused_as, none?}
 
-pub not_true : (b : Bool) → not b ≡ true → b ≡ false
-not_true true e = sym e
-not_true false e = refl
+pub not-true : (b : Bool) → not b ≡ true → b ≡ false
+not-true true e = sym e
+not-true false e = refl
 
-pub not_false : (b : Bool) → not b ≡ false → b ≡ true
-not_false true e = refl
-not_false false e = sym e
+pub not-false : (b : Bool) → not b ≡ false → b ≡ true
+not-false true e = refl
+not-false false e = sym e
 
 -- ---- refusals
 
@@ -133,11 +133,11 @@ module _ (chars : List ℕ) (end n : ℕ) (h : Held) (w : Word) (s : Sofar) (ini
   pub vars_word : (r : StatementRead) → not w.found ≡ true → r ≡ refused_as (NotDue n) → Came (due_statement s.due n (ahead chars 0 end) s.typed) r inits lefts ends nodes' property
   vars_word r f q =
       came_refused (due_statement s.due n (ahead chars 0 end) s.typed) (NotDue n) r inits lefts ends nodes' property
-      (vars_on ∙ on_none (86 ∷ 65 ∷ 82 ∷ 83 ∷ []) (ahead chars 0 end) (λ rs. vars_statement n rs s.typed) (Refused (NotDue n)) (words_none chars 0 end (86 ∷ 65 ∷ 82 ∷ 83 ∷ []) w W (not_true w.found f))) q
+      (vars_on ∙ on_none (86 ∷ 65 ∷ 82 ∷ 83 ∷ []) (ahead chars 0 end) (λ rs. vars_statement n rs s.typed) (Refused (NotDue n)) (words_none chars 0 end (86 ∷ 65 ∷ 82 ∷ 83 ∷ []) w W (not-true w.found f))) q
 
   module _ (f : not w.found ≡ false) (v : Digits) (N : Numbers chars w.next end v) where
     vars_read : due_statement s.due n (ahead chars 0 end) s.typed ≡ vars_statement n (ahead chars w.next end) s.typed
-    vars_read = vars_on ∙ on_some (86 ∷ 65 ∷ 82 ∷ 83 ∷ []) (ahead chars 0 end) (λ rs. vars_statement n rs s.typed) (Refused (NotDue n)) (ahead chars w.next end) (words_some chars 0 end (86 ∷ 65 ∷ 82 ∷ 83 ∷ []) w W (not_false w.found f))
+    vars_read = vars_on ∙ on_some (86 ∷ 65 ∷ 82 ∷ 83 ∷ []) (ahead chars 0 end) (λ rs. vars_statement n rs s.typed) (Refused (NotDue n)) (ahead chars w.next end) (words_some chars 0 end (86 ∷ 65 ∷ 82 ∷ 83 ∷ []) w W (not-false w.found f))
 
     vars_refused : (r : StatementRead) → whole_number n 64 (ahead chars w.next end) ≡ Refused (NotDue n) → r ≡ refused_as (NotDue n) → Came (due_statement s.due n (ahead chars 0 end) s.typed) r inits lefts ends nodes' property
     unfolding vars_statement
@@ -146,23 +146,23 @@ module _ (chars : List ℕ) (end n : ℕ) (h : Held) (w : Word) (s : Sofar) (ini
         came_refused (due_statement s.due n (ahead chars 0 end) s.typed) (NotDue n) r inits lefts ends nodes' property (vars_read ∙ z) q
 
     pub vars-number : (r : StatementRead) → not v.ok ≡ true → r ≡ refused_as (NotDue n) → Came (due_statement s.due n (ahead chars 0 end) s.typed) r inits lefts ends nodes' property
-    vars-number r g q = vars_refused r (number_none n (ahead chars w.next end) (ahead chars v.next end) (numbers_none chars w.next end v N (not_true v.ok g))) q
+    vars-number r g q = vars_refused r (number_none n (ahead chars w.next end) (ahead chars v.next end) (numbers_none chars w.next end v N (not-true v.ok g))) q
 
     module _ (g : not v.ok ≡ false) (b : Bool) (B : b ≡ none? (ahead chars v.next end)) where
       pub vars_more : (r : StatementRead) → not b ≡ true → r ≡ refused_as (NotDue n) → Came (due_statement s.due n (ahead chars 0 end) s.typed) r inits lefts ends nodes' property
       vars_more r c q =
-          vars_refused r (number_more n (ahead chars w.next end) v.value (ahead chars v.next end) (numbers-some chars w.next end v N (not_false v.ok g)) (sym B ∙ not_true b c)) q
+          vars_refused r (number_more n (ahead chars w.next end) v.value (ahead chars v.next end) (numbers-some chars w.next end v N (not-false v.ok g)) (sym B ∙ not-true b c)) q
 
       module _ (c : not b ≡ false) (k : ℕ) (K : k ≡ v.value) where
         pub vars_large : (r : StatementRead) → 64 < k → r ≡ refused_as (NotDue n) → Came (due_statement s.due n (ahead chars 0 end) s.typed) r inits lefts ends nodes' property
         vars_large r l q =
-            vars_refused r (number_large n (ahead chars w.next end) v.value (ahead chars v.next end) (numbers-some chars w.next end v N (not_false v.ok g)) (sym B ∙ not_false b c) (omega (arith, l, K))) q
+            vars_refused r (number_large n (ahead chars w.next end) v.value (ahead chars v.next end) (numbers-some chars w.next end v N (not-false v.ok g)) (sym B ∙ not-false b c) (omega (arith, l, K))) q
 
         pub vars_fine : k ≤ 64 → Came (due_statement s.due n (ahead chars 0 end) s.typed) (record { fine = true; answer = Fine; held = record { due = 1; count = k; typed = h.typed; initials = h.initials; equations = h.equations; used = h.used; size = h.size } }) inits lefts ends nodes' property
         unfolding vars_statement
         vars_fine l =
             let t : Typed = s.typed in
-            let e : whole_number n 64 (ahead chars w.next end) ≡ Got v.value = number_fine n (ahead chars w.next end) v.value (ahead chars v.next end) (numbers-some chars w.next end v N (not_false v.ok g)) (sym B ∙ not_false b c) (omega (arith, l, K)) in
+            let e : whole_number n 64 (ahead chars w.next end) ≡ Got v.value = number_fine n (ahead chars w.next end) v.value (ahead chars v.next end) (numbers-some chars w.next end v N (not-false v.ok g)) (sym B ∙ not-false b c) (omega (arith, l, K)) in
             let next : Sofar = record { due = DueInit; typed = record { count = k; inits = t.inits; equations = t.equations; property = t.property } } in
             let z : vars_statement n (ahead chars w.next end) t ≡ Got (record { due = DueInit; typed = record { count = v.value; inits = t.inits; equations = t.equations; property = t.property } }) = simp (e, vars_statement) in
             let y : vars_statement n (ahead chars w.next end) t ≡ Got next = z ∙ ap (λ (m : ℕ). Got (record { due = DueInit; typed = record { count = m; inits = t.inits; equations = t.equations; property = t.property } })) (sym K) in
@@ -202,19 +202,19 @@ module _ (chars : List ℕ) (end n : ℕ) (h : Held) (w : Word) (s : Sofar) (ini
   pub end_word : (r : StatementRead) → not w.found ≡ true → r ≡ refused_as (NotDue n) → Came (due_statement s.due n (ahead chars 0 end) s.typed) r inits lefts ends nodes' property
   end_word r f q =
       came_refused (due_statement s.due n (ahead chars 0 end) s.typed) (NotDue n) r inits lefts ends nodes' property
-      (end_on ∙ on_none (69 ∷ 78 ∷ 68 ∷ []) (ahead chars 0 end) (λ rs. end_statement n rs s.typed) (Refused (NotDue n)) (words_none chars 0 end (69 ∷ 78 ∷ 68 ∷ []) w W (not_true w.found f))) q
+      (end_on ∙ on_none (69 ∷ 78 ∷ 68 ∷ []) (ahead chars 0 end) (λ rs. end_statement n rs s.typed) (Refused (NotDue n)) (words_none chars 0 end (69 ∷ 78 ∷ 68 ∷ []) w W (not-true w.found f))) q
 
   module _ (f : not w.found ≡ false) (b : Bool) (B : b ≡ none? (ahead chars w.next end)) where
     end_read : due_statement s.due n (ahead chars 0 end) s.typed ≡ end_statement n (ahead chars w.next end) s.typed
-    end_read = end_on ∙ on_some (69 ∷ 78 ∷ 68 ∷ []) (ahead chars 0 end) (λ rs. end_statement n rs s.typed) (Refused (NotDue n)) (ahead chars w.next end) (words_some chars 0 end (69 ∷ 78 ∷ 68 ∷ []) w W (not_false w.found f))
+    end_read = end_on ∙ on_some (69 ∷ 78 ∷ 68 ∷ []) (ahead chars 0 end) (λ rs. end_statement n rs s.typed) (Refused (NotDue n)) (ahead chars w.next end) (words_some chars 0 end (69 ∷ 78 ∷ 68 ∷ []) w W (not-false w.found f))
 
     pub end_wrong : (r : StatementRead) → not b ≡ true → r ≡ refused_as (NotDue n) → Came (due_statement s.due n (ahead chars 0 end) s.typed) r inits lefts ends nodes' property
-    end_wrong r c q = came_refused (due_statement s.due n (ahead chars 0 end) s.typed) (NotDue n) r inits lefts ends nodes' property (end_read ∙ end_more n (ahead chars w.next end) s.typed (sym B ∙ not_true b c)) q
+    end_wrong r c q = came_refused (due_statement s.due n (ahead chars 0 end) s.typed) (NotDue n) r inits lefts ends nodes' property (end_read ∙ end_more n (ahead chars w.next end) s.typed (sym B ∙ not-true b c)) q
 
     pub end_fine : not b ≡ false → Came (due_statement s.due n (ahead chars 0 end) s.typed) (record { fine = true; answer = Fine; held = record { due = 5; count = h.count; typed = h.typed; initials = h.initials; equations = h.equations; used = h.used; size = h.size } }) inits lefts ends nodes' property
     end_fine c =
         subst (λ (o : Outcome Sofar). Came o (record { fine = true; answer = Fine; held = record { due = 5; count = h.count; typed = h.typed; initials = h.initials; equations = h.equations; used = h.used; size = h.size } }) inits lefts ends nodes' property)
-        (sym (end_read ∙ end_fills n (ahead chars w.next end) s.typed (sym B ∙ not_false b c))) (
+        (sym (end_read ∙ end_fills n (ahead chars w.next end) s.typed (sym B ∙ not-false b c))) (
           refl,
           record {
             held_is = ap (λ (x : Held). record { due = 5; count = x.count; typed = x.typed; initials = x.initials; equations = x.equations; used = x.used; size = h.size }) H.held_is;
@@ -236,7 +236,7 @@ module _ (chars : List ℕ) (at end n : ℕ) (h : Held) (b : Binary) (s : Sofar)
   pub init_number : (r : StatementRead) (out : List ℕ) → not b.ok ≡ true → r ≡ refused_as (NotDue n) → Came (init_statement n (ahead chars at end) s.typed) r out lefts ends nodes' property
   unfolding init_statement
   init_number r out f q =
-      let z : init_statement n (ahead chars at end) s.typed ≡ Refused (NotDue n) = simp (binaries false (not_true b.ok f), init_statement) in
+      let z : init_statement n (ahead chars at end) s.typed ≡ Refused (NotDue n) = simp (binaries false (not-true b.ok f), init_statement) in
       came_refused (init_statement n (ahead chars at end) s.typed) (NotDue n) r out lefts ends nodes' property z q
 
   module _ (f : not b.ok ≡ false) where
@@ -244,7 +244,7 @@ module _ (chars : List ℕ) (at end n : ℕ) (h : Held) (b : Binary) (s : Sofar)
     unfolding init_statement
     init_many r out l q =
         let m : 64 < length s.typed.inits + 1 = omega (arith, l, ap (λ (x : Held). x.typed) H.held_is) in
-        let z : init_statement n (ahead chars at end) s.typed ≡ Refused (ManyInitials n) = simp (binaries true (not_false b.ok f), lt-ltb 64 (length s.typed.inits + 1) m, init_statement) in
+        let z : init_statement n (ahead chars at end) s.typed ≡ Refused (ManyInitials n) = simp (binaries true (not-false b.ok f), lt-ltb 64 (length s.typed.inits + 1) m, init_statement) in
         came_refused (init_statement n (ahead chars at end) s.typed) (ManyInitials n) r out lefts ends nodes' property z q
 
     module _ (l : h.typed + 1 ≤ 64) where
@@ -258,7 +258,7 @@ module _ (chars : List ℕ) (at end n : ℕ) (h : Held) (b : Binary) (s : Sofar)
       unfolding init_statement
       taken =
           let m : length s.typed.inits + 1 ≤ 64 = omega (arith, l, ap (λ (x : Held). x.typed) H.held_is) in
-          simp (binaries true (not_false b.ok f), le-ltb 64 (length s.typed.inits + 1) m, init_statement)
+          simp (binaries true (not-false b.ok f), le-ltb 64 (length s.typed.inits + 1) m, init_statement)
 
       long : h.typed + 1 ≡ length (s.typed.inits ++ (b.state ∷ []))
       long = omega (arith, ap (λ (x : Held). x.typed) H.held_is, length-append s.typed.inits (b.state ∷ []))

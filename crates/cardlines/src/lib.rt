@@ -1,4 +1,6 @@
 // The statements of a deck of cards, each judged and then stored.
+#![tactic(auto)]
+
 ghost use Rattle.std.specs.Prelude.{◌≡◌, List, ℕ, ◌≤◌, length, take};
 ghost use Rattle.lists.specs.Lists.{padded};
 ghost use Rattle.logic.specs.Decks.{base};
@@ -23,7 +25,7 @@ pub const DUE_NONE: usize = 5;
 
 // What the statements so far came to, but for what stands in the arrays: what is due, the number of variables, the initial states typed and kept,
 // the equations, their nodes, and the property's nodes.
-#[derive(Drop)]
+#[derive(Clone, Copy)]
 pub struct Held {
     pub due: usize,
     pub count: usize,
@@ -35,7 +37,7 @@ pub struct Held {
 }
 
 // What a statement came to: what is held from it on, or a refusal.
-#[derive(Drop)]
+#[derive(Clone, Copy)]
 pub struct StatementRead {
     pub fine: bool,
     pub answer: decks::Answer,
@@ -43,7 +45,7 @@ pub struct StatementRead {
 }
 
 // An expression that fills the rest of a statement: its nodes, whether its variables are among the deck's, and whether one of `X F G U W` is there; or a refusal.
-#[derive(Drop)]
+#[derive(Clone, Copy)]
 pub struct ExprRead {
     pub fine: bool,
     pub answer: decks::Answer,

@@ -1,13 +1,11 @@
 -- Laws of the reader of cards: what the second pass returns of the statements, and the reader of both passes.
 use mathlib.Core.Path.{◌≡◌, refl, sym, ap, ◌∙◌, subst}
 use mathlib.Core.Bool.{true, false, not}
-use mathlib.Core.List.{List, [], ◌∷◌}
+use mathlib.Core.List.{List}
 use Prim.Native.Nat.{ℕ, ◌<◌, ◌≤◌}
 use native.Mathlib.Omega.{arith}
 use lib.ListN.{length, drop, replicate, length-replicate}
-use denote.Enum.Declared.{tag_of}
-use types.Run.{OneOf, miss}
-use borrow.Author.Tests.{lt-ltb, le-ltb, not_true, not_false}
+use borrow.Author.Tests.{lt-ltb, le-ltb, not-true, not-false}
 use Rattle.lists.specs.Lists.{Each}
 use Rattle.logic.specs.Decks.{Equation, Deck, base}
 use Rattle.decks.specs.declared.Answer.{Answer}
@@ -16,7 +14,6 @@ use Rattle.decks.specs.declared.DeckRead.{DeckRead}
 use Rattle.decks.specs.Answers.{Outcome, Got, Refused, afterwards}
 use Rattle.decks.specs.Readings.{complete}
 use Rattle.decks.specs.Lent.{HoldsEquations, Blank, deck_read, DeckCame}
-use Rattle.decks.specs.contracts.Answer.{the_type as answers}
 use Rattle.decks.proofs.Stored.{refused_came}
 use Rattle.cards.specs.Card.{cards_of, in_form}
 use Rattle.cards.specs.Statement.{statements_of}
@@ -121,7 +118,7 @@ module _ (text : List ℕ) (r : StatementRead) (inits lefts ends nodes property 
 
   all_ready : AllCame → not r.fine ≡ false → r.held.due ≡ 5 → (s : Sofar) × (statements_read text ≡ Got s) × Ready s r.held inits lefts ends nodes property
   all_ready c f d =
-      let (s, e, h) = all_held c (not_false r.fine f) in
+      let (s, e, h) = all_held c (not-false r.fine f) in
       let none : s.due ≡ DueNone = due_none s.due (ap (λ (x : Held). x.due) (sym h.held_is) ∙ d) in
       (s, e, record { holds = h; ended = none; stated = (walk-spelt 1 (statements_of (cards_of text)) s e none).1 })
 
@@ -138,11 +135,11 @@ module _ (text : List ℕ) (r : StatementRead) (inits lefts ends nodes property 
 
   module _ (x : DeckRead) where
     pub statement_refused : AllCame → not r.fine ≡ true → x ≡ deck_read (Refused r.answer) → DeckCame (afterwards (statements_read text) cards_end) x inits lefts ends nodes property
-    statement_refused c f q = refused_came (afterwards (statements_read text) cards_end) r.answer x inits lefts ends nodes property q (ap (λ (o : Outcome Sofar). afterwards o cards_end) (all_refused c (not_true r.fine f)))
+    statement_refused c f q = refused_came (afterwards (statements_read text) cards_end) r.answer x inits lefts ends nodes property q (ap (λ (o : Outcome Sofar). afterwards o cards_end) (all_refused c (not-true r.fine f)))
 
     pub statement_missing : AllCame → not r.fine ≡ false → (r.held.due ≡ 5 → ⊥) → x ≡ deck_read (Refused (NotDue 0)) → DeckCame (afterwards (statements_read text) cards_end) x inits lefts ends nodes property
     statement_missing c f d q =
-        let (s, e, h) = all_held c (not_false r.fine f) in
+        let (s, e, h) = all_held c (not-false r.fine f) in
         refused_came (afterwards (statements_read text) cards_end) (NotDue 0) x inits lefts ends nodes property q
         (ap (λ (o : Outcome Sofar). afterwards o cards_end) e ∙ end_missing s s.due refl (λ n. d (ap (λ (y : Held). y.due) h.held_is ∙ n)))
 
@@ -155,23 +152,16 @@ module _ (text : List ℕ) (r : StatementRead) (inits lefts ends nodes property 
 
 -- ---- both passes
 
--- The cases of an answer but the first, by their places.
-abbrev others : List ℕ
-others = 1 ∷ 2 ∷ 3 ∷ 4 ∷ 5 ∷ 6 ∷ 7 ∷ 8 ∷ 9 ∷ 10 ∷ 11 ∷ 12 ∷ 13 ∷ 14 ∷ 15 ∷ 16 ∷ 17 ∷ 18 ∷ 19 ∷ 20 ∷ []
-
-not_fine : (a : Answer) → OneOf others (tag_of answers a) → a ≡ Fine → ⊥
-not_fine a h e = miss others 0 tt (subst (λ (b : Answer). OneOf others (tag_of answers b)) e h)
-
 module _ (text : List ℕ) (x : DeckRead) (inits lefts ends nodes property : List ℕ) where
   pub too_long : 64800 < length text → x ≡ deck_read (Refused (TooLong 1)) → DeckCame (read_cards text) x inits lefts ends nodes property
   unfolding read_cards
   too_long h q = refused_came (read_cards text) (TooLong 1) x inits lefts ends nodes property q (simp (lt-ltb 64800 (length text) h, read_cards))
 
   module _ (a : Answer) where
-    pub not_in_form : length text ≤ 64800 → a ≡ passed (in_form (cards_of text)) → OneOf others (tag_of answers a) → x ≡ deck_read (Refused a) → DeckCame (read_cards text) x inits lefts ends nodes property
+    pub not_in_form : length text ≤ 64800 → a ≡ passed (in_form (cards_of text)) → (a ≡ Fine → ⊥) → x ≡ deck_read (Refused a) → DeckCame (read_cards text) x inits lefts ends nodes property
     unfolding read_cards
     not_in_form h e n q =
-        let w : in_form (cards_of text) ≡ Refused a = passed_refused (cards_of text) (λ i. not_fine a n (e ∙ i)) ∙ ap Refused (sym e) in
+        let w : in_form (cards_of text) ≡ Refused a = passed_refused (cards_of text) (λ i. n (e ∙ i)) ∙ ap Refused (sym e) in
         refused_came (read_cards text) a x inits lefts ends nodes property q (simp (le-ltb 64800 (length text) h, w, read_cards))
 
     pub in_form_read : length text ≤ 64800 → a ≡ passed (in_form (cards_of text)) → a ≡ Fine → DeckCame (afterwards (statements_read text) cards_end) x inits lefts ends nodes property → DeckCame (read_cards text) x inits lefts ends nodes property

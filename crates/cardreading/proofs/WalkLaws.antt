@@ -5,7 +5,7 @@ use mathlib.Core.List.{List, [], ◌∷◌}
 use Prim.Native.Nat.{ℕ, suc, ◌-◌, ◌<◌, ◌≤◌}
 use native.Mathlib.Omega.{arith}
 use lib.ListN.{length, drop_of_length-le}
-use borrow.Author.Tests.{not_false}
+use borrow.Author.Tests.{not-false}
 use Rattle.lists.specs.Lists.{firsts, ended, unended}
 use Rattle.lists.proofs.Laws.{padded-nil}
 use Rattle.logic.specs.Decks.{total_nodes}
@@ -135,7 +135,7 @@ module _ (text : List ℕ) (p : Place) (held : Held) (inits lefts ends nodes pro
             next = suc k;
             rest_is = from_it ∙ walk_got statement_read k t.its further before so q ∙ ap (λ (ss : List Statement). walk statement_read (suc k) ss so) o.same;
           }
-      go (Refused a) q y = let z : false ≡ true = sym (ap (λ (x : StatementRead). x.fine) y) ∙ not_false r.read.fine f in let i : ◌≡◌ {A = ℕ} 0 1 = cc in absurd (omega arith)
+      go (Refused a) q y = let z : false ≡ true = sym (ap (λ (x : StatementRead). x.fine) y) ∙ not-false r.read.fine f in let i : ◌≡◌ {A = ℕ} 0 1 = cc in absurd (omega arith)
 
   pub turn_less : (p' : Place) → p.at < length text → AtOpening text r.at r.n p' → length text - p'.at < length text - p.at
   turn_less p' h o = omega (arith, t.onward, o.onward)

@@ -1,4 +1,6 @@
 // The reader of cards: a text of cards read as a deck.
+#![tactic(auto)]
+
 ghost use Rattle.std.specs.Prelude.{◌≡◌, true, drop};
 ghost use Rattle.decks.specs.declared.Answer.TheVariants.{Fine};
 ghost use Rattle.decks.specs.Answers.{afterwards};

@@ -107,6 +107,8 @@ read_stops (suc left) (c ∷ cs) = begins_stops left c cs (read_stops left) (sig
 
 beginner_deep : (rest : List ℕ) → BeginsOne rest → read_expr zero rest ≡ Deep rest
 unfolding read_expr sign_of
+beginner_deep (c ∷ cs) (inr (inr (inr (inr (inr (inr (inr (inr x10)))))))) = elim x10 [ ]
+beginner_deep [] x' = elim x' [ ]
 beginner_deep (c ∷ cs) (inl e) = rw e
 beginner_deep (c ∷ cs) (inr (inl e)) = rw e
 beginner_deep (c ∷ cs) (inr (inr (inl e))) = rw e

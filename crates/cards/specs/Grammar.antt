@@ -3,7 +3,7 @@ use Rattle.std.specs.Prelude.{Bool, true, false, List, [], ◌∷◌, ℕ, zero,
 use Rattle.std.proofs.Math.Option.{Option, none, some}
 use Prim.Native.Char.{code as character}
 use Rattle.lists.specs.Lists.{chosen}
-use Rattle.logic.specs.Expressions.{Op1, Op2, Expr, Const, Var, One, Two, Not, Next, Future, Always, And, Or, Until, Weak}
+use Rattle.logic.specs.Expressions.{Op1, Op2, Const, Var, One, Two, Not, Next, Future, Always, And, Or, Until, Weak}
 use Rattle.decks.specs.Readings.{Reading, Whole, Wrong, Deep, onward}
 use Rattle.cards.specs.Card.{is_digit}
 

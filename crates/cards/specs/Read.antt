@@ -1,5 +1,5 @@
 -- Cards read: from the bytes of a text to a deck, or to one refusal, in the order of RULES 7.3. The statements that are due are those of RULES 2.6.
-use Rattle.std.specs.Prelude.{true, false, not, ◌||◌, List, [], ◌∷◌, ◌++◌, ℕ, zero, suc, ◌+◌, ◌-◌, ◌*◌, ◌^◌, ltb, eqb, length}
+use Rattle.std.specs.Prelude.{true, false, not, ◌||◌, List, [], ◌∷◌, ◌++◌, ℕ, zero, suc, ◌+◌, ◌*◌, ◌^◌, ltb, eqb, length}
 use Rattle.std.proofs.Math.Option.{Option, none, some}
 use Prim.Native.Char.{code as character}
 use Rattle.lists.specs.Texts.{bytes}

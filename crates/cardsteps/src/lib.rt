@@ -1,11 +1,13 @@
 // The statement that opens at a place of a text of cards, read.
+#![tactic(auto)]
+
 ghost use Rattle.std.specs.Prelude.{◌<◌, length};
 ghost use Rattle.statements.specs.Hold.{Placed};
 ghost use Rattle.cardlines.specs.Held.{Small};
 ghost use Rattle.cardsteps.specs.Stepped.{Rows, Stepped};
 
 // What a statement came to, and where the card behind it begins, with its number.
-#[derive(Drop)]
+#[derive(Clone, Copy)]
 pub struct Step {
     pub read: cardlines::StatementRead,
     pub at: usize,

@@ -1,4 +1,6 @@
 // Checking: a claim read on the deck that was read, and the verdict on it.
+#![tactic(auto)]
+
 ghost use Rattle.std.specs.Prelude.{◌≡◌, ◌*◌, ◌<◌, length};
 ghost use Rattle.logic.specs.Decks.{Deck, Accepted, base};
 ghost use Rattle.decks.specs.Answers.{Outcome, Got, reply_of};

@@ -1,5 +1,5 @@
 -- What the reader of claims holds of the lines so far.
-use Rattle.std.specs.Prelude.{◌≡◌, Bool, true, false, List, [], ℕ, ◌+◌, ◌*◌, ◌<◌, ◌≤◌, length}
+use Rattle.std.specs.Prelude.{◌≡◌, true, false, List, [], ℕ, ◌+◌, ◌*◌, ◌<◌, ◌≤◌, length}
 use Rattle.lists.specs.Lists.{padded}
 use Rattle.logic.specs.Decks.{base}
 use Rattle.decks.specs.declared.Answer.TheVariants.{Fine}

@@ -1,4 +1,6 @@
 // The reader of claims.
+#![tactic(auto)]
+
 ghost use Rattle.std.specs.Prelude.{◌≡◌, ◌+◌, ◌*◌, ◌<◌, ◌≤◌, length, replicate};
 ghost use Rattle.logic.specs.Decks.{base};
 ghost use Rattle.decks.specs.declared.Answer.TheVariants.{BadFrame};
@@ -28,7 +30,7 @@ const WHOLE: u8 = 2;
 const TWO_BYTES: u64 = 65536;
 
 // What the lines of a claim so far came to, but for the states themselves.
-#[derive(Drop)]
+#[derive(Clone, Copy)]
 pub struct Held {
     pub due: u8,
     pub p: usize,
@@ -37,7 +39,7 @@ pub struct Held {
 }
 
 // What a line came to: what is held from it on, or a refusal.
-#[derive(Drop)]
+#[derive(Clone, Copy)]
 pub struct LineRead {
     pub fine: bool,
     pub answer: decks::Answer,

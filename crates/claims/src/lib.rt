@@ -1,4 +1,6 @@
 // Claims: the verdict on a claimed run.
+#![tactic(auto)]
+
 ghost use Rattle.std.specs.Prelude.{◌≡◌, ◌<◌, length};
 ghost use Rattle.logic.specs.Decks.{Deck, Accepted, base};
 ghost use Rattle.logic.specs.Verdicts.{verdict};

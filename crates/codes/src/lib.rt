@@ -1,4 +1,6 @@
 // The reader of one expression, straight from its pairs.
+#![tactic(auto)]
+
 ghost use Rattle.std.specs.Prelude.{◌≡◌, ◌||◌, ◌+◌, ◌*◌, ◌<◌, ◌≤◌, length, drop, set};
 ghost use Rattle.frames.specs.Read.{sign_of, read_expr};
 ghost use Rattle.codes.specs.Steps.{places_of, step_of, leaf_vars, node_of, Kept};
@@ -24,7 +26,7 @@ pub const WRONG: u8 = 1;
 pub const DEEP: u8 = 2;
 
 // Where and how the reading of an expression stopped; of a whole one its nodes, the variables written, and whether one of `X F G U W` is there.
-#[derive(Drop)]
+#[derive(Clone, Copy)]
 pub struct Step {
     pub stop: u8,
     pub next: usize,

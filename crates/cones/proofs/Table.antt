@@ -35,6 +35,7 @@ depends_other q qs v n = simp (ne_eqb q.left v n, depends_on)
 
 -- What any of a variable's equations writes is in its set.
 pub written_depends : (qs : List Equation) (q : Equation) → q among qs → written q.right ⊆ depends_on qs q.left
+written_depends [] q x' = elim x' [ ]
 written_depends (p ∷ qs) q (inl e) =
     rw e (rw (depends_its p qs p.left refl) (union_left (written p.right) (depends_on qs p.left)))
 written_depends (p ∷ qs) q (inr m) =

@@ -1,4 +1,6 @@
 // The dependency table of a deck, the closing of a set, and the cone with its size.
+#![tactic(auto)]
+
 ghost use Rattle.std.specs.Prelude.{◌≡◌, List, ◌<◌, length, get_or, set as put, replicate};
 ghost use Rattle.sets.specs.Sets.{union};
 ghost use Rattle.logic.specs.Decks.{Equation, Deck, Accepted, base};
@@ -8,7 +10,7 @@ ghost use Rattle.cones.specs.Dependencies.{Given, table};
 ghost use Rattle.cones.specs.Cone.{cone_read};
 
 // A cone and its size, or a refusal and zeros.
-#[derive(Drop)]
+#[derive(Clone, Copy)]
 pub struct ConeRead {
     pub answer: decks::Answer,
     pub set: u64,

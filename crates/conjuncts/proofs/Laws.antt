@@ -258,10 +258,14 @@ split_counted l row x r f e c = (omega (arith, (f e c).0, length-bounds 0 e), (f
 -- ---- what the places bound
 
 bounded_more : (l ps qs : List ℕ) (es : List Expr) → Bounded l ps es → Bounded l (ps ++ qs) es
+bounded_more l (p ∷ []) qs (e ∷ es) b = elim b [ ]
+bounded_more l [] qs (e ∷ es) b = elim b [ ]
 bounded_more l ps qs [] b = tt
 bounded_more l (p ∷ q ∷ ps) qs (e ∷ es) b = (b.0, bounded_more l ps qs es b.1)
 
 bounded_append : (l ps qs : List ℕ) (es fs : List Expr) → length ps ≡ 2 * length es → Bounded l ps es → Bounded l qs fs → Bounded l (ps ++ qs) (es ++ fs)
+bounded_append l (p ∷ []) qs (e ∷ es) fs n b c = elim b [ ]
+bounded_append l [] qs (e ∷ es) fs n b c = elim b [ ]
 bounded_append l [] qs [] fs n b c = c
 bounded_append l (p ∷ ps) qs [] fs n b c = absurd (omega arith)
 bounded_append l (p ∷ q ∷ ps) qs (e ∷ es) fs n b c = (b.0, bounded_append l ps qs es fs (omega (arith, n)) b.1 c)
@@ -294,6 +298,8 @@ pub record BoundsAt (l ps : List ℕ) (e : Expr) (i : ℕ) : Type 0 where
   pub there : 2 * i + 1 < length ps
 
 pub bounded_at : (l ps : List ℕ) (es : List Expr) (i : ℕ) → Bounded l ps es → i < length es → BoundsAt l ps (get_or es i (Const false)) i
+bounded_at l (p ∷ []) (e ∷ es) i b h = elim b [ ]
+bounded_at l [] (e ∷ es) i b h = elim b [ ]
 bounded_at l ps [] i b h = absurd (omega arith)
 bounded_at l (p ∷ q ∷ ps) (e ∷ es) zero b h = record { in_order = b.0.0; within = b.0.1; bounded = b.0.2; there = omega arith }
 bounded_at l (p ∷ q ∷ ps) (e ∷ es) (suc i) b h =

@@ -1,8 +1,10 @@
 // Where the conjuncts of a property stand in its nodes, and initial states seen on a set of variables.
+#![tactic(auto)]
+
 ghost use Rattle.std.specs.Prelude.{◌≡◌, List, [], ◌∷◌, ◌++◌, ℕ, ◌+◌, ◌<◌, ◌≤◌, length, take, set as put};
 ghost use Rattle.lists.specs.Lists.{firsts, splice};
 ghost use Rattle.logic.specs.Expressions.{Expr};
-ghost use Rattle.logic.specs.Pieces.{split as conjunctsOf, projected};
+ghost use Rattle.logic.specs.Pieces.{split as conjuncts_of, projected};
 ghost use Rattle.conjuncts.specs.Conjuncts.{bounds, Coded};
 
 // A place stored in a row.
@@ -32,7 +34,7 @@ pub fn split(code: &[u16], offset: usize, row: &mut [u16], used: usize) -> usize
 // The same for a property from its first node on, and how many conjuncts it has.
 pub fn split_property(property: &[u16], size: usize, row: &mut [u16]) -> usize
     requires { (size ≤ length property.now) × ((e : Expr) × Coded e (take size property.now) 0 row.old 0) }
-    ensures { (e : Expr) → Coded e (take size property.now) 0 row.old 0 → (result ≡ length (conjunctsOf e)) × (row.new ≡ splice 0 (bounds 0 e) row.old) }
+    ensures { (e : Expr) → Coded e (take size property.now) 0 row.old 0 → (result ≡ length (conjuncts_of e)) × (row.new ≡ splice 0 (bounds 0 e) row.old) }
 {
     let used = split(&property[..size], 0, row, 0);
     used / 2

@@ -7,7 +7,7 @@ use native.Mathlib.Omega.{arith}
 use lib.Dec.{ltb}
 use lib.ListN.{length, take, drop, set, replicate, length-append, length-drop, length-set}
 use lib.Seq.{drop-drop}
-use borrow.Author.Tests.{lt-ltb, le-ltb, not_false}
+use borrow.Author.Tests.{lt-ltb, le-ltb, not-false}
 use Rattle.lists.specs.Lists.{stands, padded, splice}
 use Rattle.lists.proofs.Laws.{padded-append, padded_snoc, padded-nil, take-padded}
 use Rattle.sets.specs.Sets.{has, inside, only, union}
@@ -456,7 +456,7 @@ module _ (line : List ℕ) (n : ℕ) (h : Held) (r : LineRead) (s : Sofar) where
       go (Refused b) g e = let z : true ≡ false = ap (λ (k : LineRead). not k.fine) (sym e) ∙ f in let w : ◌≡◌ {A = ℕ} 0 1 = cc in absurd (omega arith)
       go (Got t) g e =
           let qs : List Equation = s.deck.equations in
-          let has : Stored line h r nodes' nodes'' = k (not_false r.fine f) in
+          let has : Stored line h r nodes' nodes'' = k (not-false r.fine f) in
           let w = equation_got n (drop 2 line) s.deck t g in
           let x : Equation = record { left = kind_of (drop 2 line); right = w.0 } in
           let fill : whole_expr n (drop 4 line) ≡ Got w.0 = ap (whole_expr n) (sym (drop-drop 2 2 line)) ∙ w.1 in
@@ -478,13 +478,13 @@ module _ (line : List ℕ) (n : ℕ) (h : Held) (r : LineRead) (s : Sofar) where
 
 module _ (line : List ℕ) (h : Held) (r : LineRead) (was out : List ℕ) where
   pub last_fits : (r.fine ≡ true → Stored line h r was out) → not r.fine ≡ false → r.held.last < 2 ^ 16
-  last_fits f e = omega (arith, (f (not_false r.fine e)).left-fits)
+  last_fits f e = omega (arith, (f (not-false r.fine e)).left-fits)
 
   pub used-fits : (r.fine ≡ true → Stored line h r was out) → not r.fine ≡ false → r.held.used < 2 ^ 16
-  used-fits f e = omega (arith, (f (not_false r.fine e)).most)
+  used-fits f e = omega (arith, (f (not-false r.fine e)).most)
 
   pub equation_place : (l : List ℕ) → length l ≡ 256 → (r.fine ≡ true → Stored line h r was out) → not r.fine ≡ false → h.equations < length l
-  equation_place l k f e = omega (arith, k, (f (not_false r.fine e)).few)
+  equation_place l k f e = omega (arith, k, (f (not-false r.fine e)).few)
 
 pub length-stored : (l out : List ℕ) (i x k : ℕ) → out ≡ set l i x → length l ≡ k → length out ≡ k
 length-stored l out i x k e h = ap (λ (y : List ℕ). length y) e ∙ length-set l i x ∙ h

@@ -1,4 +1,6 @@
 // The lines of a deck, each judged and then stored.
+#![tactic(auto)]
+
 ghost use Rattle.std.specs.Prelude.{◌≡◌, true, false, not, ◌+◌, ◌-◌, ◌*◌, ◌^◌, ◌<◌, ◌≤◌, length, drop, replicate};
 ghost use Rattle.lists.specs.Lists.{stands, padded};
 ghost use Rattle.logic.specs.Expressions.{Expr};
@@ -27,7 +29,7 @@ pub const DUE_COUNT: u8 = 4;
 pub const DUE_NONE: u8 = 5;
 
 // What the lines of a deck so far came to, but for what stands in the arrays.
-#[derive(Drop)]
+#[derive(Clone, Copy)]
 pub struct Held {
     pub due: u8,
     pub vars: u64,
@@ -40,7 +42,7 @@ pub struct Held {
 }
 
 // What a line came to: what is held from it on, or a refusal.
-#[derive(Drop)]
+#[derive(Clone, Copy)]
 pub struct LineRead {
     pub fine: bool,
     pub answer: decks::Answer,
@@ -91,7 +93,7 @@ pub fn bad(n: u64) -> LineRead
 }
 
 // An expression that fills the rest of a line: its nodes, the variables written, and whether one of `X F G U W` is there; or a refusal.
-#[derive(Drop)]
+#[derive(Clone, Copy)]
 pub struct ExprRead {
     pub fine: bool,
     pub answer: decks::Answer,

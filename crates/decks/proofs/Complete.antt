@@ -27,6 +27,7 @@ AllHave d = (v : ℕ) → d.vars ∋ v → HasEquation d.equations v
 
 pub left-set_member : (qs : List Equation) (v : ℕ) → HasEquation qs v → left_set qs ∋ v
 unfolding left_set
+left-set_member [] v x' = elim x' [ ]
 left-set_member (q ∷ qs) v (inl e) = union_left (only q.left) (left_set qs) v (subst (λ (x : ℕ). only x ∋ v) (sym e) (bit-only v))
 left-set_member (q ∷ qs) v (inr s) = union_right (only q.left) (left_set qs) v (left-set_member qs v s)
 

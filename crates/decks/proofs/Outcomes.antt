@@ -4,7 +4,7 @@ use mathlib.Core.Bool.{Bool, true, false, not}
 use mathlib.Core.List.{List, [], ◌∷◌, ◌++◌, append_assoc, append-nil}
 use Prim.Native.Nat.{ℕ, suc, ◌+◌}
 use native.Mathlib.Omega.{arith}
-use borrow.Author.Tests.{not_false}
+use borrow.Author.Tests.{not-false}
 use lib.ListN.{length, length-append}
 use Rattle.decks.specs.declared.Answer.{Answer}
 use Rattle.decks.specs.declared.Answer.TheVariants.{Fine}
@@ -57,7 +57,7 @@ module _ {A : Type 0} where
   refuse_given P false a r f = f refl
 
   pub refuse_not_given : (P : A → Type 0) (t : Bool) (a : Answer) (r : Outcome A) → (t ≡ true → Given P r) → Given P (refuse (not t) a r)
-  refuse_not_given P t a r f = refuse_given P (not t) a r (λ e. f (not_false t e))
+  refuse_not_given P t a r f = refuse_given P (not t) a r (λ e. f (not-false t e))
 
   pub afterwards_given : {B : Type 0} (P : B → Type 0) (r : Outcome A) (f : A → Outcome B) → ((x : A) → r ≡ Got x → Given P (f x)) → Given P (afterwards r f)
   afterwards_given P (Got x) f g = g x refl

@@ -1,4 +1,6 @@
 // The deck in memory, the limits, and the answers with their numbers.
+#![tactic(auto)]
+
 ghost use Rattle.std.specs.Prelude.{◌≡◌, ◌<◌, ◌≤◌, length, take, get_or, set};
 ghost use Rattle.lists.specs.Lists.{stands};
 ghost use Rattle.logic.specs.Decks.{base};
@@ -42,7 +44,7 @@ pub struct Deck {
 }
 
 // The answers of the table of RULES 7.2, each with what its reply needs beside the number.
-#[derive(Drop)]
+#[derive(Clone, Copy)]
 pub enum Answer {
     Fine,
     TooLong(u64),
@@ -68,7 +70,7 @@ pub enum Answer {
 }
 
 // Number, text at fault and place.
-#[derive(Drop)]
+#[derive(Clone, Copy)]
 pub struct Reply {
     pub number: u64,
     pub text: u64,
@@ -76,7 +78,7 @@ pub struct Reply {
 }
 
 // What a reader of decks comes to, beside the rows lent to it: the variables and how much of the rows is used, or a refusal and zeros.
-#[derive(Drop)]
+#[derive(Clone, Copy)]
 pub struct DeckRead {
     pub answer: Answer,
     pub vars: u64,
@@ -86,7 +88,7 @@ pub struct DeckRead {
 }
 
 // What a reader of claims comes to, beside the row of states lent to it: p and c, or a refusal and zeros.
-#[derive(Drop)]
+#[derive(Clone, Copy)]
 pub struct ClaimRead {
     pub answer: Answer,
     pub p: usize,
@@ -94,7 +96,7 @@ pub struct ClaimRead {
 }
 
 // The limits, as the logic has them.
-#[derive(Drop)]
+#[derive(Clone, Copy)]
 pub struct Sizes {
     pub text: usize,
     pub variables: usize,

@@ -1,7 +1,7 @@
 -- The worked deck with its claims and cones, and the decks without variables (RULES 9.1 to 9.4): one table, over the bytes of the texts.
 use mathlib.Core.Path.{refl}
 use mathlib.Core.List.{List, [], ◌∷◌, ◌++◌, map}
-use Prim.Native.Nat.{ℕ, ◌+◌, ◌-◌}
+use Prim.Native.Nat.{ℕ, ◌-◌}
 use Prim.Native.String.{String}
 use lib.ListN.{length, replicate}
 use lib.Count.{ones, ones_in, count_trailing_zeros}
@@ -19,11 +19,11 @@ use Rattle.decks.specs.Readings.{walk, left_set, complete}
 use Rattle.frames.specs.Hex.{hex_digit, pairs, digit_of, byte_of, number_from}
 use Rattle.frames.specs.Written.{code_byte, node_pairs, state_frames, equation_frames, deck_frames}
 use Rattle.frames.specs.Read.{sign_of, read_expr, whole_expr, whole_number, kind_of, set_line, init_line, last_left, with_equation, equation_line, property_line, count_line, frame_line, deck_line, deck_end, read_deck, sizes_line, state_line, claim_line, claim_end, read_claim}
-use Rattle.cards.specs.Card.{columns, every, kind_of as cardKind, opened, card_in_form}
+use Rattle.cards.specs.Card.{columns, every, kind_of as card_kind, opened, card_in_form}
 use Rattle.cards.specs.Statement.{gathered}
-use Rattle.cards.specs.Grammar.{second_digit, read_number, sign_of as cardSign, joint_of, past, past_joint, read_expr as cardExpr}
+use Rattle.cards.specs.Grammar.{second_digit, read_number, sign_of as card_sign, joint_of, past, past_joint, read_expr as card_expr}
 use Rattle.cards.specs.Typed.{rising_from, deck_of}
-use Rattle.cards.specs.Read.{behind, whole_expr as wholeCardExpr, whole_number as wholeCardNumber, vars_statement, read_binary, init_statement, with_equation as withCardEquation, equation_statement, prop_statement, end_statement, equation_or_prop, due_statement, statement_read, cards_end, read_cards}
+use Rattle.cards.specs.Read.{behind, whole_expr as whole_card_expr, whole_number as whole_card_number, vars_statement, read_binary, init_statement, with_equation as with_card_equation, equation_statement, prop_statement, end_statement, equation_or_prop, due_statement, statement_read, cards_end, read_cards}
 use Rattle.texts.specs.Texts.{filled}
 use Rattle.cones.specs.Cone.{cone_read}
 use Rattle.pieces.specs.Reduced.{all_frames, reduced, reduced_into}
@@ -147,5 +147,5 @@ rows =
     ∷ []
 
 pub table : Each Answered rows
-unfolding rows text lent over worked worked_frames piece_one piece_two empty empty_frames resting joined bytes ended unended fronted stands keep firsts others nodes written temporal value code total_nodes follower grown passes cone split piece pieces unrolled truth taken allowed steps_from verdict walk left_set complete hex_digit pairs digit_of byte_of number_from code_byte node_pairs state_frames equation_frames deck_frames sign_of read_expr whole_expr whole_number kind_of set_line init_line last_left with_equation equation_line property_line count_line frame_line deck_line deck_end read_deck sizes_line state_line claim_line claim_end read_claim columns every cardKind opened card_in_form gathered second_digit read_number cardSign joint_of past past_joint cardExpr rising_from deck_of behind wholeCardExpr wholeCardNumber vars_statement read_binary init_statement withCardEquation equation_statement prop_statement end_statement equation_or_prop due_statement statement_read cards_end read_cards filled cone_read all_frames reduced reduced_into checked ones ones_in count_trailing_zeros
+unfolding rows text lent over worked worked_frames piece_one piece_two empty empty_frames resting joined bytes ended unended fronted stands keep firsts others nodes written temporal value code total_nodes follower grown passes cone split piece pieces unrolled truth taken allowed steps_from verdict walk left_set complete hex_digit pairs digit_of byte_of number_from code_byte node_pairs state_frames equation_frames deck_frames sign_of read_expr whole_expr whole_number kind_of set_line init_line last_left with_equation equation_line property_line count_line frame_line deck_line deck_end read_deck sizes_line state_line claim_line claim_end read_claim columns every card_kind opened card_in_form gathered second_digit read_number card_sign joint_of past past_joint card_expr rising_from deck_of behind whole_card_expr whole_card_number vars_statement read_binary init_statement with_card_equation equation_statement prop_statement end_statement equation_or_prop due_statement statement_read cards_end read_cards filled cone_read all_frames reduced reduced_into checked ones ones_in count_trailing_zeros
 table = ((refl, refl), ((refl, refl), (refl, (refl, (refl, (refl, (refl, (refl, (refl, (refl, ((refl, refl), (refl, ((refl, refl), (refl, ((refl, refl), (refl, ((refl, refl), (refl, tt))))))))))))))))))

@@ -1,4 +1,6 @@
 // Where a line of a text ends: a card, or a frame.
+#![tactic(auto)]
+
 ghost use Rattle.std.specs.Prelude.{◌≡◌, ◌||◌, ◌+◌, ◌≤◌, ltb, eqb, length, drop};
 ghost use Rattle.ends.specs.Ends.{line_length};
 

@@ -1,4 +1,6 @@
 // The equations of a set's variables, written as frames and counted.
+#![tactic(auto)]
+
 ghost use Rattle.std.specs.Prelude.{◌≡◌, List, ◌++◌, ℕ, ◌+◌, ◌-◌, ◌*◌, ◌<◌, ◌≤◌, length, take};
 ghost use Rattle.lists.specs.Lists.{splice, keep, part};
 ghost use Rattle.sets.specs.Sets.{has};

@@ -1,5 +1,7 @@
 // The values of an expression at all states of a claim side by side: one word of pending values for each state.
 // Each operator but `U` and `W`, which are in `sweeps`, is one pass over the words. What `~`, `&`, `+` and a variable do to a word has no branch, so that their passes run on vectors.
+#![tactic(auto)]
+
 ghost use Rattle.std.specs.Prelude.{◌≡◌, ◌+◌, ◌*◌, ◌-◌, ◌/◌, ◌%◌, ◌^◌, ◌<◌, min, max, length, get_or, set};
 ghost use Rattle.sets.specs.Sets.{bit};
 ghost use Rattle.evaluator.specs.Pending.{top, second, pushed, topped, joined, All, Below, variable_word, next_word};

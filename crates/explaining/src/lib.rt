@@ -1,12 +1,14 @@
 // Replies in words: of a refusal what its number means, the card or line at fault and what to do; of an accepted deck a
 // summary. Number, text, place, pieces and deck are the station's; only safety is promised here.
+#![tactic(auto)]
+
 ghost use Rattle.std.specs.Prelude.{◌≤◌};
 ghost use Rattle.io.specs.Counts.{IsPrefixLen};
 
 use wording::{put, words};
 
 // What was told of the pieces so far.
-#[derive(Drop)]
+#[derive(Clone, Copy)]
 struct Told {
     at: usize,
     piece: u64,

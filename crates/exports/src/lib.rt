@@ -1,4 +1,6 @@
 // Exports: a reply as one word and two counts, for C.
+#![tactic(auto)]
+
 ghost use Rattle.std.specs.Prelude.{◌≡◌, length};
 ghost use Rattle.exports.specs.Exported.{packed, Packs, CountsPack, Exported};
 

@@ -10,7 +10,7 @@ use native.Mathlib.Decide.{ℕ_discrete, dec_le, dec_lt}
 use lib.Dec.{leb, ltb, eqb}
 use lib.ListN.{length, take, drop, get_or, replicate, length-drop, length-take, drop_of_length-le, get_or-eq_default}
 use lib.Seq.{take_all, drop-cons, drop-drop, get_or-drop}
-use borrow.Author.Tests.{lt-leb, le-leb, lt-ltb, le-ltb, eq-eqb, ne_eqb, not_true, not_false}
+use borrow.Author.Tests.{lt-leb, le-leb, lt-ltb, le-ltb, eq-eqb, ne_eqb, not-true, not-false}
 use Rattle.lists.specs.Lists.{ended, unended}
 use Rattle.lists.proofs.Laws.{get_d_any, take_min, drop-take, take-filled}
 use Rattle.decks.specs.declared.Answer.{Answer}
@@ -179,10 +179,10 @@ module _ (part : List ℕ) (low high : ℕ) where
         ∙ ap (λ (l : List ℕ). every (between low high) (take 8 (drop i part)) && every (between low high) l) (drop-drop 8 i part)
 
     pub block_fails : (b : Bool) → b ≡ every (between low high) (take 8 (drop i part)) → not b ≡ true → false ≡ every (between low high) part
-    block_fails b q n = sym (split_here ∙ ap (λ (x : Bool). x && every (between low high) (drop (i + 8) part)) (sym q ∙ not_true b n))
+    block_fails b q n = sym (split_here ∙ ap (λ (x : Bool). x && every (between low high) (drop (i + 8) part)) (sym q ∙ not-true b n))
 
     pub block_passes : (b : Bool) → b ≡ every (between low high) (take 8 (drop i part)) → not b ≡ false → every (between low high) part ≡ every (between low high) (drop (i + 8) part)
-    block_passes b q n = split_here ∙ ap (λ (x : Bool). x && every (between low high) (drop (i + 8) part)) (sym q ∙ not_false b n)
+    block_passes b q n = split_here ∙ ap (λ (x : Bool). x && every (between low high) (drop (i + 8) part)) (sym q ∙ not-false b n)
 
     pub rest-done : (r : Bool) → r ≡ every (between low high) (drop i part) → r ≡ every (between low high) part
     rest-done r q = q ∙ sym e

@@ -1,4 +1,6 @@
 // One card: its columns, its kind and its field; and the first pass, card by card, the faults 2 to 7.
+#![tactic(auto)]
+
 ghost use Rattle.std.specs.Prelude.{◌≡◌, not, ◌&&◌, ◌+◌, ◌-◌, ◌<◌, ◌≤◌, min, leb, length, take, drop};
 ghost use Rattle.cards.specs.Card.{cards_of, field_start, field_end, column, columns, every, is_blank, printable, is_comment, Continuing, numbered, kind_of, opened, card_in_form, in_form};
 ghost use Rattle.firstpass.specs.Passed.{between, free, kind_is, open_of, outcome_of, passed};
@@ -16,7 +18,7 @@ pub const FIELD_END: usize = 72;
 pub const CONTINUATIONS: u64 = 19;
 
 // The kinds of card.
-#[derive(Drop)]
+#[derive(Clone, Copy)]
 pub enum CardKind {
     Comment,
     Empty,
@@ -25,7 +27,7 @@ pub enum CardKind {
 }
 
 // What a card comes to: the open statement behind it (0 none, k + 1 one with k continuations), or a refusal.
-#[derive(Drop)]
+#[derive(Clone, Copy)]
 pub enum Carded {
     Next(u64),
     Fault(Answer),

@@ -1,6 +1,6 @@
 -- Decks and claims written as frames: one frame a line, upper-case hexadecimal pairs, each line ended by byte 10 (RULES 6).
-use Rattle.std.specs.Prelude.{Bool, true, false, List, [], ◌∷◌, ◌++◌, ℕ, ◌+◌, ◌-◌, ltb, length}
-use Rattle.logic.specs.Expressions.{Expr, code}
+use Rattle.std.specs.Prelude.{true, false, List, [], ◌∷◌, ◌++◌, ℕ, ◌+◌, ◌-◌, ltb, length}
+use Rattle.logic.specs.Expressions.{code}
 use Rattle.logic.specs.Decks.{Equation, Deck}
 use Rattle.logic.specs.Meaning.{Claim}
 use Rattle.frames.specs.Hex.{pair, pairs}

@@ -1,1 +1,3 @@
+#![tactic(auto)]
+
 // Frames: decks and claims, read and written.

@@ -7,7 +7,7 @@ use Prim.Native.Nat.{ℕ, suc, ◌+◌, ◌-◌, ◌*◌, ◌^◌, ◌<◌, ◌�
 use native.Mathlib.Omega.{arith}
 use native.Mathlib.Nat.{sub-zero}
 use native.Mathlib.Numerals.{add-one}
-use borrow.Author.Tests.{not_true, not_false, eqb-true}
+use borrow.Author.Tests.{not-true, not-false, eqb-true}
 use lib.Dec.{eqb}
 use lib.ListN.{length, get_or}
 use Rattle.cards.specs.Grammar.{digit_value}
@@ -49,7 +49,7 @@ binary_further i s c cs = refl
 
 module _ (c : ℕ) (b : Bool) where
   pub binary_small : b ≡ binary_digit c → not b ≡ false → digit_value c ≤ 1
-  binary_small p n = let h = binary_bounds c (sym p ∙ not_false b n) in omega arith
+  binary_small p n = let h = binary_bounds c (sym p ∙ not-false b n) in omega arith
 
 pub binary_begun : (chars : List ℕ) (at end k : ℕ) → read_binary 0 k 0 (ahead chars at end) ≡ read_binary 0 (k - 0) 0 (ahead chars at end)
 binary_begun chars at end k = ap (λ (m : ℕ). read_binary 0 m 0 (ahead chars at end)) (sym (sub-zero k))
@@ -62,7 +62,7 @@ module _ (chars : List ℕ) (at end k next i s : ℕ) where
   module _ (c : Ink) (b : Bool) where
     pub binary_on : (u : ℕ) → end ≤ length chars → i < k → Left → Inks chars next end c → b ≡ binary_digit c.code → not b ≡ false → u ≡ s + digit_value c.code * 2 ^ i → read_binary 0 k 0 (ahead chars at end) ≡ read_binary (i + 1) (k - (i + 1)) u (ahead chars c.next end)
     binary_on u l h p t q n w =
-        let e : binary_digit c.code ≡ true = sym q ∙ not_false b n in
+        let e : binary_digit c.code ≡ true = sym q ∙ not-false b n in
         let bounds = binary_bounds c.code e in
         let more : k - i ≡ suc (k - (i + 1)) = omega arith in
         let there : c.place < end = t.there (λ z. omega arith) in
@@ -75,7 +75,7 @@ module _ (chars : List ℕ) (at end k next i s : ℕ) where
     binaries_none f h p t q n =
         let from : next ≤ c.place = t.from in
         let more : k - i ≡ suc (k - (i + 1)) = omega arith in
-        let e : binary_digit (get_or (ahead chars next end) 0 0) ≡ false = ap binary_digit (sym t.first) ∙ sym q ∙ not_true b n in
+        let e : binary_digit (get_or (ahead chars next end) 0 0) ≡ false = ap binary_digit (sym t.first) ∙ sym q ∙ not-true b n in
         record {
           from = omega arith;
           within = t.within;

@@ -2,9 +2,9 @@
 use mathlib.Core.Path.{◌≡◌, refl, sym, ap, ap₂, ◌∙◌}
 use mathlib.Core.Bool.{Bool, true, false, not, ◌&&◌, true≢false}
 use mathlib.Core.List.{List, [], ◌∷◌}
-use Prim.Native.Nat.{ℕ, ◌+◌, ◌-◌, ◌*◌, ◌≤◌, min}
+use Prim.Native.Nat.{ℕ, ◌+◌, ◌*◌, ◌≤◌, min}
 use native.Mathlib.Omega.{arith}
-use borrow.Author.Tests.{not_true, not_false, eq-eqb, ne_eqb, leb-true}
+use borrow.Author.Tests.{not-true, not-false, eq-eqb, ne_eqb, leb-true}
 use lib.Dec.{leb}
 use lib.ListN.{drop, get_or}
 use Rattle.cards.specs.Card.{is_digit}
@@ -55,7 +55,7 @@ second-digit d (c ∷ cs) e = simp (e, second_digit)
 module _ (chars : List ℕ) (at end : ℕ) (f : Ink) (d : Bool) where
   pub numbers_none : Inks chars at end f → d ≡ is_digit f.code → not d ≡ true → Numbers chars at end (record { ok = false; value = 0; next = f.place })
   numbers_none s p n =
-      let e : is_digit (get_or (ahead chars at end) 0 0) ≡ false = ap is_digit (sym s.first) ∙ sym p ∙ not_true d n in
+      let e : is_digit (get_or (ahead chars at end) 0 0) ≡ false = ap is_digit (sym s.first) ∙ sym p ∙ not-true d n in
       record { from = s.from; within = s.within; small = omega arith; settled = λ q. s.settled; told = ap NoNumber s.same ∙ sym (number-fault (ahead chars at end) e) }
 
   module _ (v : ℕ) where
@@ -64,7 +64,7 @@ module _ (chars : List ℕ) (at end : ℕ) (f : Ink) (d : Bool) where
         let from : at ≤ f.place = s.from in
         let within : f.place ≤ end = s.within in
         let on : f.next ≡ min (f.place + 1) end = s.onward in
-        let e : is_digit (get_or (ahead chars at end) 0 0) ≡ true = ap is_digit (sym s.first) ∙ sym p ∙ not_false d n in
+        let e : is_digit (get_or (ahead chars at end) 0 0) ≡ true = ap is_digit (sym s.first) ∙ sym p ∙ not-false d n in
         let w : digit_value (get_or (ahead chars at end) 0 0) ≡ 0 = ap digit_value (sym s.first) ∙ sym q ∙ z in
         record { from = omega arith; within = omega arith; small = omega arith; settled = λ b. absurd (true≢false b); told = ap (Number 0) s.rest ∙ sym (number_zero (ahead chars at end) e w) }
 
@@ -72,19 +72,19 @@ module _ (chars : List ℕ) (at end : ℕ) (f : Ink) (d : Bool) where
       -- Behind a first digit other than 0 the second decides.
       onward : Inks chars at end f → d ≡ is_digit f.code → not d ≡ false → v ≡ digit_value f.code → (v ≡ 0 → ⊥) → read_number (ahead chars at end) ≡ second_digit v (ahead chars f.next end)
       onward s p n q z =
-          let e : is_digit (get_or (ahead chars at end) 0 0) ≡ true = ap is_digit (sym s.first) ∙ sym p ∙ not_false d n in
+          let e : is_digit (get_or (ahead chars at end) 0 0) ≡ true = ap is_digit (sym s.first) ∙ sym p ∙ not-false d n in
           let w : digit_value (get_or (ahead chars at end) 0 0) ≡ v = ap digit_value (sym s.first) ∙ sym q in
           number_more (ahead chars at end) e (λ y. z (sym w ∙ y)) ∙ ap₂ second_digit w (sym s.rest)
 
       small-digit : d ≡ is_digit f.code → not d ≡ false → v ≡ digit_value f.code → v ≤ 9
-      small-digit p n q = let h = digit-bounds f.code (sym p ∙ not_false d n) in omega arith
+      small-digit p n q = let h = digit-bounds f.code (sym p ∙ not-false d n) in omega arith
 
       pub numbers_one : Inks chars at end f → d ≡ is_digit f.code → not d ≡ false → v ≡ digit_value f.code → (v ≡ 0 → ⊥) → Inks chars f.next end g → b ≡ is_digit g.code → not b ≡ true → Numbers chars at end (record { ok = true; value = v; next = f.next })
       numbers_one s p n q z t o m =
           let from : at ≤ f.place = s.from in
           let within : f.place ≤ end = s.within in
           let on : f.next ≡ min (f.place + 1) end = s.onward in
-          let e : is_digit (get_or (ahead chars f.next end) 0 0) ≡ false = ap is_digit (sym t.first) ∙ sym o ∙ not_true b m in
+          let e : is_digit (get_or (ahead chars f.next end) 0 0) ≡ false = ap is_digit (sym t.first) ∙ sym o ∙ not-true b m in
           record {
             from = omega arith;
             within = omega arith;
@@ -102,7 +102,7 @@ module _ (chars : List ℕ) (at end : ℕ) (f : Ink) (d : Bool) where
             let from2 : f.next ≤ g.place = t.from in
             let within2 : g.place ≤ end = t.within in
             let on2 : g.next ≡ min (g.place + 1) end = t.onward in
-            let e : is_digit g.code ≡ true = sym o ∙ not_false b m in
+            let e : is_digit g.code ≡ true = sym o ∙ not-false b m in
             let h = digit-bounds g.code e in
             let y : digit_value (get_or (ahead chars f.next end) 0 0) ≡ u = ap digit_value (sym t.first) ∙ sym w in
             record {

@@ -1,5 +1,7 @@
 // Readers over the characters of a statement: numbers, words and binary digits. Blanks mean nothing.
 // The first `end` of the characters are the fields of the statement's cards, one after the other.
+#![tactic(auto)]
+
 ghost use Rattle.std.specs.Prelude.{◌≡◌, ◌+◌, ◌-◌, ◌*◌, ◌^◌, ◌<◌, ◌≤◌, length};
 ghost use Rattle.cards.specs.Card.{is_digit};
 ghost use Rattle.cards.specs.Grammar.{digit_value};
@@ -9,7 +11,7 @@ ghost use Rattle.grammar.specs.Readers.{Numbers, Words, binary_digit, Binaries};
 const BLANK: u8 = b' ';
 
 // The next character that is no blank: its code, its place, and the place behind it. At the end the code is 0 and both places are the end.
-#[derive(Drop)]
+#[derive(Clone, Copy)]
 pub struct Ink {
     pub code: u8,
     pub place: usize,
@@ -17,7 +19,7 @@ pub struct Ink {
 }
 
 // A number and the place behind it; or the place of the first fault.
-#[derive(Drop)]
+#[derive(Clone, Copy)]
 pub struct Digits {
     pub ok: bool,
     pub value: u16,
@@ -25,14 +27,14 @@ pub struct Digits {
 }
 
 // Whether the word stands there, and the place behind it; or the place of the first fault.
-#[derive(Drop)]
+#[derive(Clone, Copy)]
 pub struct Word {
     pub found: bool,
     pub next: usize,
 }
 
 // The state that binary digits give, and the place behind them; or the place of the first fault.
-#[derive(Drop)]
+#[derive(Clone, Copy)]
 pub struct Binary {
     pub ok: bool,
     pub state: u64,

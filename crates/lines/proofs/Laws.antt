@@ -11,7 +11,7 @@ use native.Mathlib.Decide.{ℕ_discrete}
 use lib.Dec.{ltb, leb, eqb, lit<}
 use lib.ListN.{length, drop, get_or, length-drop, drop_of_length-le}
 use lib.Seq.{drop-cons, drop-drop}
-use borrow.Author.Tests.{lt-ltb, le-ltb, le-leb, lt-leb, eq-eqb, ne_eqb, eqb-true, ltb-false, not_false}
+use borrow.Author.Tests.{lt-ltb, le-ltb, le-leb, lt-leb, eq-eqb, ne_eqb, eqb-true, ltb-false, not-false}
 use Rattle.frames.specs.Hex.{digit_of, byte_of, number_from, number}
 use Rattle.frames.proofs.HexLaws.{pairs-number, length_pairs}
 use Rattle.decks.specs.declared.Answer.TheVariants.{BadFrame}
@@ -224,7 +224,7 @@ module _ (l : List ℕ) (at k i value place : ℕ) where
 -- Two pairs of zeros at the front of a number are passed over.
 pub zeros_passed : (l : List ℕ) (at k i : ℕ) (b : Bool) → i + 1 < k → NumberSofar l at k i 0 (at + 2 * i) → b ≡ both_zero (drop (at + 2 * i) l) → not b ≡ false → NumberSofar l at k (i + 2) 0 (at + 2 * (i + 2))
 zeros_passed l at k i b h e p q =
-    let z = both_zero_lem l (at + 2 * i) (sym p ∙ not_false b q) in
+    let z = both_zero_lem l (at + 2 * i) (sym p ∙ not-false b q) in
     let first : number k (drop at l) ≡ number_from (k - (i + 1)) 0 (drop (at + 2 * i + 2) l) = number_next l at k i 0 (at + 2 * i) 0 (omega arith) e (sym z.0) (lit< tt) in
     let second : number k (drop at l) ≡ number_from (k - (i + 1 + 1)) 0 (drop (at + 2 * i + 2 + 2) l) = number_next l at k (i + 1) 0 (at + 2 * i + 2) 0 (omega arith) first (sym z.1) (lit< tt) in
     let two : i + 1 + 1 ≡ i + 2 = omega arith in

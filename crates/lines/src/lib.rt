@@ -1,4 +1,6 @@
 // Hexadecimal pairs, and the numbers that pairs give.
+#![tactic(auto)]
+
 ghost use Rattle.std.specs.Prelude.{◌≡◌, ◌+◌, ◌-◌, ◌*◌, ◌<◌, ◌≤◌, length, drop};
 ghost use Rattle.frames.specs.Hex.{digit_of, number_from, number};
 ghost use Rattle.frames.specs.Read.{kind_of};
@@ -11,7 +13,7 @@ pub const NO_PAIR: u64 = 256;
 const ZEROS: u64 = 0x3030_3030;
 
 // The number that pairs give, or that they are not as due.
-#[derive(Drop)]
+#[derive(Clone, Copy)]
 pub enum Number {
     Good(u64),
     Bad,

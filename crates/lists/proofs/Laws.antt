@@ -18,6 +18,7 @@ use Rattle.lists.specs.Lists.{Each, Some, ◌among◌, Distinct, keep, stands, o
 
 module _ {A : Type 0} where
   pub each_at : (P : A → Type 0) (xs : List A) (x : A) → Each P xs → x among xs → P x
+  each_at P [] x ps x4 = elim x4 [ ]
   each_at P (y ∷ ys) x ps (inl e) = subst P (sym e) ps.0
   each_at P (y ∷ ys) x ps (inr m) = each_at P ys x ps.1 m
 
@@ -30,14 +31,17 @@ module _ {A : Type 0} where
   each_map P Q (y ∷ ys) f ps = (f y ps.0, each_map P Q ys f ps.1)
 
   pub some-map : (P Q : A → Type 0) (xs : List A) → ((x : A) → P x → Q x) → Some P xs → Some Q xs
+  some-map P Q [] f x'' = elim x'' [ ]
   some-map P Q (y ∷ ys) f (inl p) = inl (f y p)
   some-map P Q (y ∷ ys) f (inr s) = inr (some-map P Q ys f s)
 
   pub some_find : (P : A → Type 0) (xs : List A) → Some P xs → (x : A) × (x among xs) × P x
+  some_find P [] x' = elim x' [ ]
   some_find P (y ∷ ys) (inl p) = (y, inl refl, p)
   some_find P (y ∷ ys) (inr s) = let f = some_find P ys s in (f.0, inr f.1, f.2)
 
   pub find_some : (P : A → Type 0) (xs : List A) (x : A) → x among xs → P x → Some P xs
+  find_some P [] x x4 p = elim x4 [ ]
   find_some P (y ∷ ys) x (inl e) p = inl (subst P e p)
   find_some P (y ∷ ys) x (inr m) p = inr (find_some P ys x m p)
 
@@ -67,6 +71,7 @@ module _ {A : Type 0} where
   get_or_among xs i d h = each_get_or (λ x. x among xs) xs i d (each_all (λ x. x among xs) xs (λ x m. m)) h
 
   pub among_get_or : (xs : List A) (x d : A) → x among xs → (i : ℕ) × (i < length xs) × (x ≡ get_or xs i d)
+  among_get_or [] x d x3 = elim x3 [ ]
   among_get_or (y ∷ ys) x d (inl e) = (0, omega arith, e)
   among_get_or (y ∷ ys) x d (inr m) = let f = among_get_or ys x d m in (suc f.0, omega (arith, f.1), f.2)
 
@@ -87,6 +92,7 @@ module _ {A : Type 0} where
   each_drop P n xs ps = (append_each P (take n xs) (drop n xs) (rw (take-append-drop n xs) ps)).1
 
   pub some_left : (P : A → Type 0) (xs ys : List A) → Some P xs → Some P (xs ++ ys)
+  some_left P [] ys x' = elim x' [ ]
   some_left P (x ∷ xs) ys (inl p) = inl p
   some_left P (x ∷ xs) ys (inr s) = inr (some_left P xs ys s)
 
@@ -120,10 +126,12 @@ module _ {A B : Type 0} (f : A → B) where
   map_each P (x ∷ xs) ps = (ps.0, map_each P xs ps.1)
 
   pub some_of_map : (P : B → Type 0) (xs : List A) → Some (λ x. P (f x)) xs → Some P (map f xs)
+  some_of_map P [] x' = elim x' [ ]
   some_of_map P (x ∷ xs) (inl p) = inl p
   some_of_map P (x ∷ xs) (inr s) = inr (some_of_map P xs s)
 
   pub map-some : (P : B → Type 0) (xs : List A) → Some P (map f xs) → Some (λ x. P (f x)) xs
+  map-some P [] x' = elim x' [ ]
   map-some P (x ∷ xs) (inl p) = inl p
   map-some P (x ∷ xs) (inr s) = inr (map-some P xs s)
 
@@ -144,6 +152,7 @@ unfolding stands
 stands_other x y ys n = simp (ne_eqb x y n, stands)
 
 pub stands_true : (x : ℕ) (ys : List ℕ) → x among ys → stands x ys ≡ true
+stands_true x [] x'' = elim x'' [ ]
 stands_true x (y ∷ ys) (inl e) = stands_same x y ys e
 stands_true x (y ∷ ys) (inr m) = by_cases (ℕ_discrete x y) (stands_same x y ys) (λ n. stands_other x y ys n ∙ stands_true x ys m)
 
@@ -194,12 +203,14 @@ others_absent x [] n = refl
 others_absent x (y ∷ ys) n = others_other x y ys (λ e. n (inl e)) ∙ ap (λ (l : List ℕ). y ∷ l) (others_absent x ys (λ m. n (inr m)))
 
 pub among_others : (x y : ℕ) (ys : List ℕ) → (x ≡ y → ⊥) → y among ys → y among others x ys
+among_others x y [] n x3 = elim x3 [ ]
 among_others x y (z ∷ ys) n (inl e) = rw (others_other x z ys (λ d. n (d ∙ sym e))) (inl e)
 among_others x y (z ∷ ys) n (inr m) =
     by_cases (ℕ_discrete x z) (λ e. rw (others_same x z ys e) (among_others x y ys n m)) (λ d. rw (others_other x z ys d) (inr (among_others x y ys n m)))
 
 pub others_among : (x y : ℕ) (ys : List ℕ) → y among others x ys → (y among ys) × (x ≡ y → ⊥)
 unfolding others
+others_among x y [] m = elim m [ ]
 others_among x y (z ∷ ys) m = by_cases (ℕ_discrete x z) (λ e. same (others_among x y ys (rw (others_same x z ys e) at m))) (λ d. other d (rw (others_other x z ys d) at m) (others_among x y ys))
   where
     same : (y among ys) × (x ≡ y → ⊥) → (y among z ∷ ys) × (x ≡ y → ⊥)
@@ -236,12 +247,14 @@ firsts_distinct (x ∷ xs) = (λ m. (others_among x x (firsts xs) m).1 refl, dis
 
 pub among_firsts : (x : ℕ) (xs : List ℕ) → x among xs → x among firsts xs
 unfolding firsts
+among_firsts x [] x'' = elim x'' [ ]
 among_firsts x (y ∷ ys) (inl e) = inl e
 among_firsts x (y ∷ ys) (inr m) =
     by_cases (ℕ_discrete x y) (λ e. inl e) (λ n. inr (among_others y x (firsts ys) (λ e. n (sym e)) (among_firsts x ys m)))
 
 pub firsts_among : (x : ℕ) (xs : List ℕ) → x among firsts xs → x among xs
 unfolding firsts
+firsts_among x [] x'' = elim x'' [ ]
 firsts_among x (y ∷ ys) (inl e) = inl e
 firsts_among x (y ∷ ys) (inr m) = inr (firsts_among x ys (others_among y x (firsts ys) m).0)
 
@@ -263,6 +276,7 @@ firsts_new x (y ∷ ys) n =
 
 pub firsts_again : (x : ℕ) (xs : List ℕ) → x among xs → firsts (xs ++ x ∷ []) ≡ firsts xs
 unfolding firsts others
+firsts_again x [] x'' = elim x'' [ ]
 firsts_again x (y ∷ ys) (inr m) = ap (λ (l : List ℕ). y ∷ others y l) (firsts_again x ys m)
 firsts_again x (y ∷ ys) (inl e) =
     by_cases
@@ -305,6 +319,7 @@ snoc_distinct x (y ∷ ys) d =
     )
 
 pub distinct_before : (xs : List ℕ) (x : ℕ) (ys : List ℕ) → Distinct (xs ++ x ∷ ys) → x among xs → ⊥
+distinct_before [] x ys d x4 = elim x4 [ ]
 distinct_before (y ∷ xs) x ys d (inl e) = d.0 (among_right xs (x ∷ ys) y (inl (sym e)))
 distinct_before (y ∷ xs) x ys d (inr m) = distinct_before xs x ys d.1 m
 
@@ -336,6 +351,7 @@ module _ {A : Type 0} (t : A → Bool) where
       (test_cases x)
 
   pub among_keep : (x : A) (xs : List A) → t x ≡ true → x among xs → x among keep t xs
+  among_keep x [] e x3 = elim x3 [ ]
   among_keep x (y ∷ ys) e (inl q) = rw (keep_pass y ys (sym (ap t q) ∙ e)) (inl q)
   among_keep x (y ∷ ys) e (inr m) =
       ⊎_elim (λ p. rw (keep_pass y ys p) (inr (among_keep x ys e m))) (λ p. rw (keep_fail y ys p) (among_keep x ys e m)) (test_cases y)
@@ -620,6 +636,7 @@ unended_next (b ∷ bs) rest = unended-before b (bs ++ 10 ∷ rest) (inr (among_
 
 -- A text with a byte 10 has a first line.
 pub first_line : (t : List ℕ) → 10 among t → (line : List ℕ) × (rest : List ℕ) × (10 among line → ⊥) × (t ≡ line ++ 10 ∷ rest)
+first_line [] m = elim m [ ]
 first_line (b ∷ bs) m =
     by_cases
     (ℕ_discrete 10 b)

@@ -170,6 +170,7 @@ outside c w v n m i = omega (arith, i, bit-union c (only w) v, not_in c v n, not
 
 valued_takes : (c : ℕ) (qs : List Equation) (s v : ℕ)
     → (c ∋ v → ⊥) → Some (λ (q : Equation). q.left ≡ v) qs → Some (λ (q : Equation). (q.left ≡ v) × (value s q.right ≡ bit (valued c qs s) v)) qs
+valued_takes c [] s v n k = elim k [ ]
 valued_takes c (q ∷ qs) s v n k =
     by_cases
     (ℕ_discrete v q.left)

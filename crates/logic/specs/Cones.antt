@@ -1,5 +1,5 @@
 -- The cone of a set: the least set that holds it and, with each variable, all variables written in any of its equations (RULES 5.1).
-use Rattle.std.specs.Prelude.{◌≡◌, Bool, true, false, List, [], ◌∷◌, ℕ, zero, suc, length}
+use Rattle.std.specs.Prelude.{true, false, List, [], ◌∷◌, ℕ, zero, suc, length}
 use Rattle.lists.specs.Lists.{Each}
 use Rattle.sets.specs.Sets.{◌∋◌, ◌⊆◌, has, union}
 use Rattle.logic.specs.Expressions.{written}

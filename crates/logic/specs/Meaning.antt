@@ -1,5 +1,5 @@
 -- What a property says of a run, and which runs a deck has (RULES 4).
-use Rattle.std.specs.Prelude.{◌≡◌, ◌⊎◌, Bool, true, false, List, [], ◌∷◌, ℕ, zero, suc, ◌+◌, ◌<◌, ◌≤◌, T, ltb, length, get_or}
+use Rattle.std.specs.Prelude.{◌≡◌, ◌⊎◌, true, false, List, ℕ, zero, suc, ◌+◌, ◌<◌, ◌≤◌, T, ltb, length, get_or}
 use Rattle.lists.specs.Lists.{Some, ◌among◌}
 use Rattle.sets.specs.Sets.{bit, ◌∋◌, ◌⊆◌}
 use Rattle.logic.specs.Expressions.{Expr, Const, Var, One, Two, Not, Next, Future, Always, And, Or, Until, Weak, value}

@@ -1,5 +1,5 @@
 -- The verdict on a claimed run (RULES 4.5, 7.5), worked out.
-use Rattle.std.specs.Prelude.{Bool, true, false, List, [], ◌∷◌, ℕ, zero, suc, ◌+◌, ◌-◌, min, max, eqb, ltb}
+use Rattle.std.specs.Prelude.{Bool, true, false, List, [], ◌∷◌, ℕ, zero, suc, ◌+◌, ◌-◌, min, max, eqb}
 use Rattle.lists.specs.Lists.{stands}
 use Rattle.sets.specs.Sets.{bit, only, union, meet}
 use Rattle.logic.specs.Expressions.{Expr, Const, Var, One, Two, Not, Next, Future, Always, And, Or, Until, Weak, digit, value}

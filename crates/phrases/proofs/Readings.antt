@@ -1,5 +1,5 @@
 -- What the card form's reading of an expression keeps: its result under one level more, and the bounds of what it gives.
-use mathlib.Core.Path.{◌≡◌, refl, sym, ap, subst}
+use mathlib.Core.Path.{◌≡◌, refl, subst}
 use mathlib.Core.Bool.{Bool, true, false}
 use mathlib.Core.List.{List, [], ◌∷◌}
 use mathlib.Core.Option.{Option, none, some}
@@ -7,7 +7,7 @@ use Prim.Native.Nat.{ℕ, zero, suc, ◌+◌, ◌*◌, ◌<◌, ◌≤◌}
 use native.Mathlib.Omega.{arith}
 use lib.Dec.{eqb}
 use lib.ListN.{length}
-use Rattle.logic.specs.Expressions.{Expr, Two, Op2, nodes, levels, Below}
+use Rattle.logic.specs.Expressions.{Expr, Op2, nodes, levels, Below}
 use Rattle.decks.specs.Readings.{Reading, Whole, Wrong, Deep, onward}
 use Rattle.cards.specs.Card.{is_digit}
 use Rattle.cards.specs.Grammar.{Sign, Constant, Variable, Before, Bracket, NoSign, Counted, Number, NoNumber, digit_value, second_digit, read_number, sign_of, joint_of, past, past_joint, variable, levelled, begins, read_expr}

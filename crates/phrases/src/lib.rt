@@ -1,4 +1,6 @@
 // Readers of expressions over the characters of a statement; the nodes go in prefix order into a lent array.
+#![tactic(auto)]
+
 ghost use Rattle.std.specs.Prelude.{◌≡◌, suc, ◌+◌, ◌-◌, ◌*◌, ◌/◌, ◌%◌, ◌<◌, ◌≤◌, ◌∷◌, length, set};
 ghost use Rattle.cards.specs.Grammar.{sign_of, joint_of, read_number, variable, read_expr};
 ghost use Rattle.grammar.specs.Ahead.{ahead};
@@ -19,7 +21,7 @@ const VARIABLE: u16 = 1;
 const BRACKET: u16 = 266;
 
 // How a reading stopped, at which place, and how many places of the array are used then.
-#[derive(Drop)]
+#[derive(Clone, Copy)]
 pub struct Phrase {
     pub stop: usize,
     pub next: usize,

@@ -1,4 +1,6 @@
 // All reduced decks of a deck, written one behind the other.
+#![tactic(auto)]
+
 ghost use Rattle.std.specs.Prelude.{◌≡◌, List, ◌≤◌, length};
 ghost use Rattle.lists.specs.Lists.{splice, part};
 ghost use Rattle.logic.specs.Expressions.{Expr};
@@ -16,7 +18,7 @@ ghost use Rattle.pieces.specs.Reduced.{piece_bytes, reduced, reduced_into};
 use decks::Answer;
 
 // What a reduction answers.
-#[derive(Drop)]
+#[derive(Clone, Copy)]
 pub struct Reduced {
     pub answer: Answer,
     pub pieces: usize,

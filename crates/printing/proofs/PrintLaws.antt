@@ -27,7 +27,7 @@ use Rattle.replies.specs.declared.CountReply.{CountReply}
 use Rattle.replies.specs.Replies.{write_reply, write_buffer, reduce_reply, reduce_buffer, cone_reply}
 use Rattle.replies.specs.Readable.{Readable}
 use Rattle.station.proofs.ReplyLaws.{reduced_as}
-use Rattle.printing.specs.Printed.{refusal_kind, refusal_frame, reply_frame, answer_frame, printed_as, printed, printed_into, deck_printed_into, replied, size_text, cone_line, cone_printed, cone_printed_into, verdict_into}
+use Rattle.printing.specs.Printed.{refusal_kind, refusal_frame, reply_frame, answer_frame, printed_as, printed_into, deck_printed_into, replied, size_text, cone_line, cone_printed, cone_printed_into, verdict_into}
 
 -- ---- texts into buffers
 

@@ -1,4 +1,6 @@
 // What the program prints, each reply with every byte promised: what was asked for, or one frame FF.
+#![tactic(auto)]
+
 ghost use Rattle.std.specs.Prelude.{◌≡◌, ◌≤◌, length};
 ghost use Rattle.lists.specs.Lists.{splice};
 ghost use Rattle.texts.specs.Texts.{filled};

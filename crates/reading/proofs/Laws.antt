@@ -8,13 +8,12 @@ use native.Mathlib.Numerals.{add-one}
 use lib.Dec.{ltb, eqb}
 use lib.ListN.{length, take, drop, get_or, replicate, length-append, length-map, length-replicate, drop_of_length-le}
 use lib.Seq.{drop-cons}
-use borrow.Author.Tests.{lt-ltb, le-ltb, eq-eqb, ne_eqb, eqb-true, not_false}
+use borrow.Author.Tests.{lt-ltb, le-ltb, eq-eqb, ne_eqb, eqb-true, not-false}
 use Rattle.lists.specs.Lists.{stands, padded, ended, unended}
 use Rattle.lists.proofs.Laws.{padded-nil}
 use Rattle.sets.specs.Sets.{has, inside, without, lowest_of}
 use Rattle.logic.specs.Expressions.{Expr, nodes, written, temporal}
 use Rattle.logic.specs.Decks.{Equation, Deck, total_nodes}
-use Rattle.decks.specs.declared.Answer.{Answer}
 use Rattle.decks.specs.declared.Answer.TheVariants.{Fine, TooLong, BadFrame, NoEquation}
 use Rattle.decks.specs.declared.DeckRead.{DeckRead}
 use Rattle.decks.specs.Answers.{Outcome, Got, Refused, refuse, afterwards}
@@ -227,7 +226,7 @@ module _ (line : List ℕ) (n k : ℕ) (b : Bool) (h : Held) (s : Sofar) where
   permits_as e j = j s.due (ap (λ (x : Held). x.due) e)
 
   permitted_kind : h ≡ held_of s → Judged → not b ≡ false → permits s.due k ≡ true
-  permitted_kind e j f = sym (permits_as e j) ∙ not_false b f
+  permitted_kind e j f = sym (permits_as e j) ∙ not-false b f
 
   at_kind : h ≡ held_of s → k ≡ kind_of line → Judged → not b ≡ false → deck_line n line s ≡ frame_line k n (drop 2 line) s.deck
   unfolding deck_line
@@ -515,7 +514,7 @@ module _ (text : List ℕ) where
           where
             go : (o : Outcome Sofar) → Came o r inits'' lefts'' ends'' nodes'' property'' → read_deck text ≡ onward (n + 1) (drop (end + 1) text) o → Reached text inits'' lefts'' ends'' nodes'' property'' r.held (end + 1) (n + 1)
             go (Got s) y z = record { sofar = s; held_is = ap (λ (w : LineRead). w.held) y.line_is; arrays_hold = y.arrays_hold; rest_is = z }
-            go (Refused b) y z = false_true (sym (ap (λ (w : LineRead). w.fine) y.line_is) ∙ not_false r.fine f)
+            go (Refused b) y z = false_true (sym (ap (λ (w : LineRead). w.fine) y.line_is) ∙ not-false r.fine f)
 
     behind : (d : Here) → length text ≤ at → read_deck text ≡ deck_end [] d.sofar
     unfolding ended unended

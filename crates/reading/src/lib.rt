@@ -1,4 +1,6 @@
 // The reader of decks.
+#![tactic(auto)]
+
 ghost use Rattle.std.specs.Prelude.{◌≡◌, ◌||◌, ◌≤◌, eqb, drop};
 ghost use Rattle.decks.specs.Answers.{Refused};
 ghost use Rattle.decks.specs.Lent.{Blank, DeckCame};

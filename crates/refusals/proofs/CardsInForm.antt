@@ -27,6 +27,7 @@ use Rattle.refusals.proofs.OrderLaws.{true_false, Meets, meets_exactly, meets_he
 -- ---- the bytes and columns of one card
 
 byte_inside : (card : List ℕ) → BytesIn card → ByteOutside card → ⊥
+byte_inside [] _ x3 = elim x3 [ ]
 byte_inside (b ∷ bs) ((l, m), hs) (inl (inl h)) = omega arith
 byte_inside (b ∷ bs) ((l, m), hs) (inl (inr h)) = omega arith
 byte_inside (b ∷ bs) (h, hs) (inr s) = byte_inside bs hs s
@@ -115,6 +116,7 @@ empty_continues_none card (r, f) (s, n, m) = n (f 6 (omega arith) (omega arith))
 -- ---- the open statement
 
 open_unique : (back : List (List ℕ)) (k j : ℕ) → OpenOver k back → OpenOver j back → k ≡ j
+open_unique [] k j p q = elim p [ ]
 open_unique (c ∷ cs) zero zero p q = refl
 open_unique (c ∷ cs) zero (suc j) p (q, r) = absurd (opens-continues c p q)
 open_unique (c ∷ cs) (suc k) zero (p, r) q = absurd (opens-continues c q p)

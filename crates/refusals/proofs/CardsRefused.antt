@@ -23,7 +23,7 @@ use Rattle.decks.proofs.Complete.{HasEquation}
 use Rattle.refusals.specs.Order.{Try, backwards, rising}
 use Rattle.refusals.specs.StatementFaults.{Item, Count, Initial, Equals, Property, Ending, SpellsItem, added, Typing}
 use Rattle.refusals.specs.CardsOrder.{Missing, Lacking, cards_order, Gives}
-use Rattle.refusals.proofs.OrderLaws.{Meets, meets_is, meets_here, meets_past, meets_test, meets_keeps, meets_afterwards, alike_meets, rising_alike}
+use Rattle.refusals.proofs.OrderLaws.{Meets, meets_here, meets_past, meets_test, meets_keeps, meets_afterwards, alike_meets, rising_alike}
 use Rattle.refusals.proofs.CardsInForm.{Stands, form_meets}
 use Rattle.refusals.proofs.Statements.{member_below, typing_unique, behind_is, statements-meet}
 use Rattle.refusals.proofs.Lacking.{Without, complete_meets}

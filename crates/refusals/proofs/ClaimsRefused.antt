@@ -6,7 +6,7 @@ use mathlib.Core.List.{List, [], ◌∷◌, ◌++◌}
 use mathlib.Core.Option.{Option, none, some}
 use Prim.Native.Nat.{ℕ, suc, ◌+◌, ◌*◌, ◌/◌, ◌%◌, ◌^◌, ◌<◌, ◌≤◌}
 use native.Mathlib.Omega.{arith}
-use borrow.Author.Tests.{lt-ltb, le-ltb, ltb-true, ltb-false, eq-eqb, ne_eqb, eqb-true, eqb-false, not_false, not_true}
+use borrow.Author.Tests.{lt-ltb, le-ltb, ltb-true, ltb-false, eq-eqb, ne_eqb, eqb-true, eqb-false, not-false, not-true}
 use lib.Dec.{ltb, eqb}
 use lib.ListN.{length, drop}
 use Rattle.lists.specs.Lists.{ended, unended}
@@ -139,7 +139,7 @@ module _ (n : ℕ) (so : ClaimSofar) (l : List ℕ) where
 
   -- A line of kind k with k' pairs of content.
   content_comes : (k j : ℕ) (g : ℕ → Outcome ClaimFrame) → k < 256 → ((x : ℕ) → l ≡ pair k ++ pairs j x → x < 256 ^ j → Comes (g x)) → Comes (refuse (not (eqb (kind_of l) k)) (BadFrame 2 n) (afterwards (whole_number 2 n j (drop 2 l)) g))
-  content_comes k j g h f = refuse_comes (not (eqb (kind_of l) k)) _ (λ t. go (whole_number 2 n j (drop 2 l)) refl (line_kind l k (eqb-true (kind_of l) k (not_false (eqb (kind_of l) k) t)) h))
+  content_comes k j g h f = refuse_comes (not (eqb (kind_of l) k)) _ (λ t. go (whole_number 2 n j (drop 2 l)) refl (line_kind l k (eqb-true (kind_of l) k (not-false (eqb (kind_of l) k) t)) h))
     where
       go : (r : Outcome ℕ) → whole_number 2 n j (drop 2 l) ≡ r → l ≡ pair k ++ drop 2 l → Comes (afterwards r g)
       go (Got x) e w = let (v, b) = whole-number_got 2 n j (drop 2 l) x e in f x (w ∙ ap (λ (cs : List ℕ). pair k ++ cs) v) b
@@ -166,7 +166,7 @@ line_comes n (StatesDue m) l = go (ltb (length m.states) (m.p + m.c)) refl
     go true e = content_comes n (StatesDue m) l state_kind set_bytes (λ s. Got (State m s)) (omega arith) (λ s w b. (refl, ltb-true (length m.states) (m.p + m.c) e, w, b))
     go false e =
         content_comes n (StatesDue m) l claim_count_kind 2 (counted n m) (omega arith) (λ x w b.
-        refuse_comes n (StatesDue m) l (not (eqb (x + 1) n)) (Got (Closing m x)) (λ t. (refl, ltb-false (length m.states) (m.p + m.c) e, w, b, eqb-true (x + 1) n (not_false (eqb (x + 1) n) t))))
+        refuse_comes n (StatesDue m) l (not (eqb (x + 1) n)) (Got (Closing m x)) (λ t. (refl, ltb-false (length m.states) (m.p + m.c) e, w, b, eqb-true (x + 1) n (not-false (eqb (x + 1) n) t))))
 line_comes n (ClaimWhole m) l = refl
 
 -- ---- the claim so far, and what a line holds, are one
@@ -178,8 +178,8 @@ frame_judged : (vars n : ℕ) (f : ClaimFrame) → Meets (Try (UsesOutside vars 
 frame_judged vars n (Sizes p c) = meets_past _ _ _ _ _ (λ h. h) (meets_got _ _ refl)
 frame_judged vars n (State m s) =
     meets_test _ _ _ _ (not (inside s vars)) _
-    (λ e. false_inside s vars (not_true (inside s vars) e))
-    (λ e f. f (true_inside s vars (not_false (inside s vars) e)))
+    (λ e. false_inside s vars (not-true (inside s vars) e))
+    (λ e f. f (true_inside s vars (not-false (inside s vars) e)))
     (λ e. meets_got _ _ refl)
 frame_judged vars n (Closing m x) = meets_past _ _ _ _ _ (λ h. h) (meets_got _ _ refl)
 

@@ -6,7 +6,7 @@ use mathlib.Core.List.{List, [], ◌∷◌, ◌++◌}
 use mathlib.Core.Option.{Option, none, some}
 use Prim.Native.Nat.{ℕ, ◌+◌, ◌<◌, ◌≤◌}
 use native.Mathlib.Omega.{arith}
-use borrow.Author.Tests.{lt-ltb, le-ltb, ltb-true, ltb-false, eq-eqb, eqb-true, not_false}
+use borrow.Author.Tests.{lt-ltb, le-ltb, ltb-true, ltb-false, eq-eqb, eqb-true, not-false}
 use lib.Dec.{ltb, eqb}
 use lib.ListN.{length, drop}
 use Rattle.lists.specs.Lists.{stands}
@@ -291,7 +291,7 @@ module _ (n : ℕ) (so : Sofar) (l : List ℕ) where
   equation_comes p (h ∷ []) e = inl refl
   equation_comes p (h ∷ k ∷ cs) e =
       refuse_comes (not (ltb (byte_of h k) base.variables)) _ (λ t.
-      let low : byte_of h k < base.variables = ltb-true (byte_of h k) base.variables (not_false (ltb (byte_of h k) base.variables) t) in
+      let low : byte_of h k < base.variables = ltb-true (byte_of h k) base.variables (not-false (ltb (byte_of h k) base.variables) t) in
       let start : l ≡ pair equation_kind ++ (pair (byte_of h k) ++ cs) = e ∙ ap (λ (x : List ℕ). pair equation_kind ++ (x ++ cs)) (sym (pair_byte h k (omega arith))) in
       refuse_comes (ltb (byte_of h k) (last_left so.deck.equations)) _ (λ u.
       let rising = ltb-false (byte_of h k) (last_left so.deck.equations) u in
@@ -310,7 +310,7 @@ module _ (n : ℕ) (so : Sofar) (l : List ℕ) where
       then_comes (whole_number 1 n 2 cs) (λ x. refuse (not (eqb (x + 1) n)) (BadFrame 1 n) (Got (CountFrame x)))
       (λ x h.
       refuse_comes (not (eqb (x + 1) n)) (Got (CountFrame x)) (λ t.
-      let w = whole-number_got 1 n 2 cs x h in (p, (e ∙ ap (λ (y : List ℕ). pair count_kind ++ y) w.0, w.1), eqb-true (x + 1) n (not_false (eqb (x + 1) n) t))))
+      let w = whole-number_got 1 n 2 cs x h in (p, (e ∙ ap (λ (y : List ℕ). pair count_kind ++ y) w.0, w.1), eqb-true (x + 1) n (not-false (eqb (x + 1) n) t))))
       (λ a h. inl (number_refused n 2 cs a h))
 
   -- The line begins with the pair of its kind.
@@ -348,4 +348,4 @@ module _ (n : ℕ) (so : Sofar) (l : List ℕ) where
 
   pub line_comes : Comes (frame_read n so l)
   unfolding frame_read
-  line_comes = refuse_comes (not (permits so.due (kind_of l))) _ (λ t. frame_comes (not_false (permits so.due (kind_of l)) t))
+  line_comes = refuse_comes (not (permits so.due (kind_of l))) _ (λ t. frame_comes (not-false (permits so.due (kind_of l)) t))

@@ -5,7 +5,7 @@ use mathlib.Core.Bool.{Bool, true, false, not}
 use mathlib.Core.List.{List, [], ◌∷◌}
 use Prim.Native.Nat.{ℕ, suc, ◌+◌, ◌^◌, ◌<◌}
 use native.Mathlib.Omega.{arith}
-use borrow.Author.Tests.{ltb-true, ltb-false, not_false, not_true}
+use borrow.Author.Tests.{ltb-true, ltb-false, not-false, not-true}
 use lib.Dec.{ltb}
 use lib.ListN.{length}
 use Rattle.lists.specs.Lists.{ended, unended}
@@ -62,8 +62,8 @@ frame_judged n d (SetFrame v) =
     meets_past _ _ _ _ _ (λ h. h) (meets_past _ _ _ _ _ (λ h. h) (meets_past _ _ _ _ _ (λ h. h) (meets_past _ _ _ _ _ (λ h. h) (meets_past _ _ _ _ _ (λ h. h) (meets_got _ _ refl)))))
 frame_judged n d (InitFrame s) =
     meets_test _ _ _ _ (not (inside s d.vars)) _
-    (λ e. false_inside s d.vars (not_true (inside s d.vars) e))
-    (λ e f. f (true_inside s d.vars (not_false (inside s d.vars) e)))
+    (λ e. false_inside s d.vars (not-true (inside s d.vars) e))
+    (λ e f. f (true_inside s d.vars (not-false (inside s d.vars) e)))
     (λ e.
     meets_past _ _ _ _ _ (λ h. h)
     (meets_test _ _ _ _ (ltb base.initials (length d.inits + 1)) _ (ltb-true base.initials (length d.inits + 1)) (λ e h. omega (arith, ltb-false base.initials (length d.inits + 1) e)) (λ e.
@@ -71,8 +71,8 @@ frame_judged n d (InitFrame s) =
 frame_judged n d (EquationFrame q) = equation_judged n d q
 frame_judged n d (PropertyFrame x) =
     meets_test _ _ _ _ (not (inside (written x) d.vars)) _
-    (λ e. false_inside (written x) d.vars (not_true (inside (written x) d.vars) e))
-    (λ e f. f (true_inside (written x) d.vars (not_false (inside (written x) d.vars) e)))
+    (λ e. false_inside (written x) d.vars (not-true (inside (written x) d.vars) e))
+    (λ e f. f (true_inside (written x) d.vars (not-false (inside (written x) d.vars) e)))
     (λ e.
     meets_past _ _ _ _ _ (λ h. h)
     (meets_past _ _ _ _ _ (λ h. h)

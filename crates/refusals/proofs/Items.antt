@@ -10,7 +10,7 @@ use lib.Dec.{ltb}
 use lib.ListN.{length}
 use Rattle.lists.specs.Texts.{bytes}
 use Rattle.sets.specs.Sets.{inside}
-use Rattle.logic.specs.Expressions.{Expr, nodes, levels, written, decimal, spelling}
+use Rattle.logic.specs.Expressions.{Expr, nodes, written, decimal, spelling}
 use Rattle.logic.specs.Decks.{base}
 use Rattle.logic.proofs.Spelling.{NoDigit}
 use Rattle.decks.specs.declared.Answer.{Answer}

@@ -22,12 +22,14 @@ true_false e = let z : ◌≡◌ {A = ℕ} 0 1 = cc in absurd (omega arith)
 
 -- The first that holds is one.
 pub first_unique : (c : Conditions) (a b : Answer) → FirstOf c a → FirstOf c b → a ≡ b
+first_unique Done a b x'' _ = elim x'' [ ]
 first_unique (Try P x cs) a b (inl (p, e)) (inl (q, f)) = e ∙ sym f
 first_unique (Try P x cs) a b (inl (p, e)) (inr (n, f)) = absurd (n p)
 first_unique (Try P x cs) a b (inr (n, f)) (inl (p, e)) = absurd (n p)
 first_unique (Try P x cs) a b (inr (n, f)) (inr (m, g)) = first_unique cs a b f g
 
 pub first_none : (c : Conditions) (a : Answer) → FirstOf c a → NoneOf c → ⊥
+first_none Done a x'' _ = elim x'' [ ]
 first_none (Try P x cs) a (inl (p, e)) (n, ns) = n p
 first_none (Try P x cs) a (inr (m, f)) (n, ns) = first_none cs a f ns
 
@@ -35,6 +37,7 @@ first_none (Try P x cs) a (inr (m, f)) (n, ns) = first_none cs a f ns
 
 pub first-left : (c d : Conditions) (a : Answer) → FirstOf c a → FirstOf (followed c d) a
 unfolding followed
+first-left Done d a x' = elim x' [ ]
 first-left (Try P x cs) d a (inl h) = inl h
 first-left (Try P x cs) d a (inr (n, f)) = inr (n, first-left cs d a f)
 
@@ -124,10 +127,14 @@ Alike (Try P a cs) Done = ⊥
 Alike (Try P a cs) (Try Q b ds) = (P ↔ Q) × (a ≡ b) × Alike cs ds
 
 pub alike_first : (c d : Conditions) (a : Answer) → Alike c d → FirstOf c a → FirstOf d a
+alike_first (Try P x cs) Done a x6 _ = elim x6 [ ]
+alike_first Done d a _ x3 = elim x3 [ ]
 alike_first (Try P x cs) (Try Q y ds) a (i, e, m) (inl (p, h)) = inl (i.0 p, h ∙ e)
 alike_first (Try P x cs) (Try Q y ds) a (i, e, m) (inr (n, f)) = inr (λ q. n (i.1 q), alike_first cs ds a m f)
 
 pub alike_none : (c d : Conditions) → Alike c d → NoneOf c → NoneOf d
+alike_none (Try P x cs) Done m n = elim m [ ]
+alike_none Done (Try Q y ds) m n = elim m [ ]
 alike_none Done Done m n = tt
 alike_none (Try P x cs) (Try Q y ds) (i, e, m) (n, ns) = (λ q. n (i.1 q), alike_none cs ds m ns)
 

@@ -6,7 +6,7 @@ use mathlib.Core.List.{List, [], ◌∷◌}
 use Prim.Native.Nat.{ℕ, suc, ◌+◌, ◌^◌, ◌<◌}
 use native.Mathlib.Omega.{arith}
 use native.Mathlib.Decide.{dec_lt}
-use borrow.Author.Tests.{ltb-true, ltb-false, not_false, not_true}
+use borrow.Author.Tests.{ltb-true, ltb-false, not-false, not-true}
 use lib.Dec.{ltb}
 use lib.ListN.{length}
 use lib.Pow.{pow-lt}
@@ -72,8 +72,8 @@ item_judged n t (Initial s) =
 item_judged n t (Equals q) = equation_judged n t q
 item_judged n t (Property x) =
     meets_test _ _ _ _ (not (inside (written x) (first_vars t.count))) _
-    (λ e. false_inside (written x) (first_vars t.count) (not_true (inside (written x) (first_vars t.count)) e))
-    (λ e f. f (true_inside (written x) (first_vars t.count) (not_false (inside (written x) (first_vars t.count)) e)))
+    (λ e. false_inside (written x) (first_vars t.count) (not-true (inside (written x) (first_vars t.count)) e))
+    (λ e f. f (true_inside (written x) (first_vars t.count) (not-false (inside (written x) (first_vars t.count)) e)))
     (λ e.
     meets_past _ _ _ _ _ (λ h. h)
     (meets_past _ _ _ _ _ (λ h. h)

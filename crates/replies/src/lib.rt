@@ -1,4 +1,6 @@
 // Replies: number, text and place of what was read, and beside them its deck, or what writing, reducing or closing it gives.
+#![tactic(auto)]
+
 ghost use Rattle.std.specs.Prelude.{◌≡◌, List, ℕ};
 ghost use Rattle.logic.specs.Decks.{Deck};
 ghost use Rattle.decks.specs.Answers.{Outcome};
@@ -16,7 +18,7 @@ pub struct DeckReply {
 }
 
 // A reply that returns two counts: bytes and 0 of a write, pieces and bytes of a reduction, the set and its size of a cone.
-#[derive(Drop)]
+#[derive(Clone, Copy)]
 pub struct CountReply {
     pub number: u64,
     pub text: u64,

@@ -1,4 +1,6 @@
 // Sets of variables as u64 words: digit v of the word is 1 where Vv is in the set.
+#![tactic(auto)]
+
 ghost use Rattle.std.specs.Prelude.{◌≡◌, ◌%◌, ◌^◌};
 ghost use Rattle.sets.specs.Sets.{bit, has, only, union, meet, without, inside, size, lowest_of, width};
 

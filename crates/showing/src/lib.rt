@@ -1,4 +1,6 @@
 // A card or line of a text, shown under a ruler with a mark at the column at fault. Only safety is promised here.
+#![tactic(auto)]
+
 ghost use Rattle.std.specs.Prelude.{◌≤◌, length};
 
 use wording::put;
@@ -7,7 +9,7 @@ use wording::put;
 const SHOWN: usize = 81;
 
 // A line of a text: its first place, and the place behind its last.
-#[derive(Drop)]
+#[derive(Clone, Copy)]
 pub struct Line {
     pub from: usize,
     pub to: usize,

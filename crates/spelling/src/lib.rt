@@ -1,4 +1,6 @@
 // An expression in prefix order, spelt as on cards without blanks. Only safety is promised here.
+#![tactic(auto)]
+
 use wording::put;
 
 // The codes from which on constants and operators stand in frames.
@@ -16,7 +18,7 @@ const UNTIL: u64 = 72;
 const OPEN: usize = decks::LEVELS;
 
 // Where the spelling goes on, and how many operators are open.
-#[derive(Drop)]
+#[derive(Clone, Copy)]
 struct Spelt {
     at: usize,
     open: usize,

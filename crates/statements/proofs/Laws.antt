@@ -10,7 +10,7 @@ use native.Mathlib.Decide.{dec_lt}
 use lib.Dec.{ltb, eqb}
 use lib.ListN.{length, take, drop, get_or, set, replicate, length-append, length-take, length-drop, length-replicate, drop_of_length-le, get_or-eq_default}
 use lib.Seq.{take_all, take-suc, get_or-take, get_or-drop}
-use borrow.Author.Tests.{ltb-false, eqb-true, not_true, not_false}
+use borrow.Author.Tests.{ltb-false, eqb-true, not-true, not-false}
 use Rattle.lists.specs.Lists.{splice, ended, unended}
 use Rattle.lists.proofs.Laws.{get_d_any, get_or-filled, padded-append, padded_snoc, splice_nothing, splice-splice, set-splice, length-splice}
 use Rattle.decks.specs.declared.Answer.TheVariants.{TooManyCards}
@@ -19,7 +19,7 @@ use Rattle.decks.specs.Readings.{walk}
 use Rattle.decks.proofs.Outcomes.{got_eq, refuse_got, refuse_not, walk_first}
 use Rattle.cards.proofs.FormLaws.{card-formed}
 use Rattle.cards.specs.Card.{cards_of, blank, every, is_blank, is_comment, field_start, field_end, column, columns, continuations, Kind, Comment, Empty, Opening, Continuing, kind_of, Open, Shut, Continued, opened, card_in_form}
-use Rattle.cards.specs.Statement.{Statement, Nothing, Held, laid, gathered, field_of}
+use Rattle.cards.specs.Statement.{Statement, Nothing, Held, gathered, field_of}
 use Rattle.firstpass.specs.declared.CardKind.{CardKind}
 use Rattle.firstpass.specs.declared.CardKind.TheVariants.{Continuing as ContinuingCard}
 use Rattle.firstpass.specs.Passed.{free, kind_is}
@@ -415,11 +415,11 @@ module _ (text : List ℕ) (at i : ℕ) where
     pub no_comment : (r : Bool) → i < length text → Left → Begins → not b ≡ true → r ≡ continues (kind_of (card_at text i)) → r ≡ continued (cards_of (drop at text))
     no_comment r h l c n e =
         let end : ℕ = i + line_length (drop i text) in
-        sym (looked_at end h l c refl ∙ ap (λ (t : Bool). elim t [ true ↦ continued (cards_of (drop (end + 1) text)) | false ↦ continues (kind_of (card_at text i)) ]) (not_true b n) ∙ sym e)
+        sym (looked_at end h l c refl ∙ ap (λ (t : Bool). elim t [ true ↦ continued (cards_of (drop (end + 1) text)) | false ↦ continues (kind_of (card_at text i)) ]) (not-true b n) ∙ sym e)
 
     pub comment_passed : (end : ℕ) → i < length text → Left → Begins → not b ≡ false → end ≡ i + line_length (drop i text) → continued (cards_of (drop at text)) ≡ continued (cards_of (drop (end + 1) text))
     comment_passed end h l c n e =
-        looked_at end h l c e ∙ ap (λ (t : Bool). elim t [ true ↦ continued (cards_of (drop (end + 1) text)) | false ↦ continues (kind_of (card_at text i)) ]) (not_false b n)
+        looked_at end h l c e ∙ ap (λ (t : Bool). elim t [ true ↦ continued (cards_of (drop (end + 1) text)) | false ↦ continues (kind_of (card_at text i)) ]) (not-false b n)
 
   pub none_left : length text ≤ i → Left → false ≡ continued (cards_of (drop at text))
   none_left h l = sym (l ∙ ap continued (no_cards text i h))

@@ -1,4 +1,6 @@
 // The statement in hand, cards folded into it, and the walk over the text from statement to statement.
+#![tactic(auto)]
+
 ghost use Rattle.std.specs.Prelude.{◌≡◌, [], ◌+◌, ◌<◌, ◌≤◌, length, drop};
 ghost use Rattle.cards.specs.Card.{cards_of, field_columns, Continuing, kind_of};
 ghost use Rattle.firstpass.specs.Passed.{kind_is};
@@ -18,7 +20,7 @@ pub const FIELD: usize = 66;
 const MARK: usize = 5;
 
 // A statement in hand: the fields of its cards one after the other, each filled with blanks to its 66 columns, and the numbers of its cards.
-#[derive(Drop)]
+#[derive(Clone, Copy)]
 pub struct Stmt {
     pub chars: [u8; CHARACTERS],
     pub used: usize,
@@ -27,7 +29,7 @@ pub struct Stmt {
 }
 
 // Where card n of a text begins, and where it ends.
-#[derive(Drop)]
+#[derive(Clone, Copy)]
 pub struct Place {
     pub at: usize,
     pub n: u64,
@@ -35,7 +37,7 @@ pub struct Place {
 }
 
 // What the walk takes: whether a statement, which, and where the cards behind it begin.
-#[derive(Drop)]
+#[derive(Clone, Copy)]
 pub struct Taken {
     pub found: bool,
     pub stmt: Stmt,

@@ -1,9 +1,11 @@
 // The public operations: each on texts, each with a reply to every text.
+#![tactic(auto)]
+
 ghost use Rattle.std.specs.Prelude.{◌≡◌};
 ghost use Rattle.decks.specs.Answers.{reply_of};
 ghost use Rattle.frames.specs.Read.{read_deck};
 ghost use Rattle.cards.specs.Read.{read_cards};
-ghost use Rattle.claims.specs.Checked.{checked as claimAnswer};
+ghost use Rattle.claims.specs.Checked.{checked as claim_answer};
 ghost use Rattle.replies.specs.Replies.{write_reply, write_buffer, reduce_reply, reduce_buffer, cone_reply};
 ghost use Rattle.exports.specs.Exported.{packed_reply, Exported};
 ghost use Rattle.station.specs.Promises.{ReadsFrames, ReadsCards, WritesFrames, WritesCards, ReducesFrames, ReducesCards, FindsCone, ChecksClaim};
@@ -211,7 +213,7 @@ pub extern "C" fn micaplume_cone(deck: &[u8], set: u64, counts: &mut [u64; 2]) -
 // check for C.
 #[unsafe(no_mangle)]
 pub extern "C" fn micaplume_check<'a>(deck: &'a [u8], claim: &'a [u8]) -> u64
-    ensures { result ≡ packed_reply (reply_of (claimAnswer deck.now claim.now)) }
+    ensures { result ≡ packed_reply (reply_of (claim_answer deck.now claim.now)) }
 {
     let r = check(deck, claim);
     exports::packed(r.number, r.text, r.place)

@@ -11,7 +11,7 @@ use lib.Pow.{pow_pos}
 use lib.Bits.{or_zero_r}
 use Rattle.sets.specs.Sets.{bit, only, union, width}
 use Rattle.sets.proofs.Laws.{only_mod, union_assoc}
-use Rattle.logic.specs.Expressions.{Expr, Const, Var, One, Two, Not, Next, Future, Always, And, Or, Until, Weak, Plain, value, levels}
+use Rattle.logic.specs.Expressions.{Expr, Const, Var, One, Two, Not, Next, Future, Always, And, Or, Until, Weak, Plain, value}
 use Rattle.logic.specs.Decks.{Equation, base, total_nodes}
 use Rattle.logic.specs.Meaning.{Claim, state_of}
 use Rattle.logic.specs.Verdicts.{truth, taken}

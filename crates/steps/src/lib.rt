@@ -1,4 +1,6 @@
 // The steps of a claim: all states side by side, equation by equation.
+#![tactic(auto)]
+
 ghost use Rattle.std.specs.Prelude.{◌≡◌, List, ◌/◌, ◌<◌, eqb, length, get_or, set};
 ghost use Rattle.sets.specs.Sets.{bit};
 ghost use Rattle.logic.specs.Decks.{Equation, base};

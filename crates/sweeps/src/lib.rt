@@ -1,4 +1,6 @@
 // `U` and `W` at all states of a claim side by side, in two sweeps over the words of pending values, from the last state back.
+#![tactic(auto)]
+
 ghost use Rattle.std.specs.Prelude.{◌≡◌, ◌<◌, min, max, length};
 ghost use Rattle.evaluator.specs.Pending.{top, second, joined, All};
 ghost use Rattle.sweeps.specs.Swept.{settled, swept_word};

@@ -1,4 +1,6 @@
 // Expressions in memory: nodes in prefix order.
+#![tactic(auto)]
+
 ghost use Rattle.std.specs.Prelude.{◌≡◌, ◌+◌, ◌<◌, max, eqb, length, drop};
 ghost use Rattle.logic.specs.Expressions.{Expr, levels as depth};
 ghost use Rattle.terms.specs.Nodes.{variable?, constant?, places_of, temporal?, spans, variables_of, some_temporal, Stands};
@@ -163,7 +165,7 @@ fn larger(a: usize, b: usize) -> usize
 }
 
 // Where an expression ends, and its deepest level.
-#[derive(Drop)]
+#[derive(Clone, Copy)]
 pub struct Reach {
     pub end: usize,
     pub levels: usize,

@@ -1,4 +1,6 @@
 // Decks, pieces and claims written as texts of frames.
+#![tactic(auto)]
+
 ghost use Rattle.std.specs.Prelude.{◌≡◌, List, ◌++◌, ◌+◌, ◌-◌, ◌*◌, ◌≤◌, length, take};
 ghost use Rattle.lists.specs.Lists.{splice, part, padded};
 ghost use Rattle.logic.specs.Expressions.{Expr};
@@ -14,7 +16,7 @@ ghost use Rattle.texts.specs.Texts.{deck_written, claim_written};
 ghost use Rattle.texts.specs.Lent.{Lent, frames_of, claim_of};
 
 // What a writer answers, and how many bytes it wrote.
-#[derive(Drop)]
+#[derive(Clone, Copy)]
 pub struct Written {
     pub answer: decks::Answer,
     pub bytes: usize,

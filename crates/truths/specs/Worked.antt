@@ -1,6 +1,6 @@
 -- The truth of an expression at every state of a claim, worked out side by side as pending values.
 use Rattle.std.specs.Prelude.{◌≡◌, List, ℕ, ◌+◌, ◌-◌, ◌<◌, ◌≤◌, length}
-use Rattle.logic.specs.Expressions.{Expr, Const, Var, One, Two, Op1, Op2, node1, node2, nodes as size, levels, Narrow}
+use Rattle.logic.specs.Expressions.{Expr, One, Two, Op1, Op2, node1, node2, nodes as size, levels, Narrow}
 use Rattle.logic.specs.Decks.{Limits}
 use Rattle.logic.specs.Meaning.{Claim, Sized}
 use Rattle.logic.specs.Verdicts.{truth}

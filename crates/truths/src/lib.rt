@@ -1,4 +1,6 @@
 // The truth of an expression at all states of a claim side by side: the recursion goes once a level.
+#![tactic(auto)]
+
 ghost use Rattle.std.specs.Prelude.{◌≡◌, ◌<◌, length};
 ghost use Rattle.evaluator.specs.Pending.{Below};
 ghost use Rattle.truths.specs.Worked.{Leaf, Applied1, Applied2, Ready, Ends, Evaluated};

@@ -1,4 +1,6 @@
 // Decks and claims written as frames.
+#![tactic(auto)]
+
 ghost use Rattle.std.specs.Prelude.{◌≡◌, [], ◌∷◌, ◌++◌, ◌+◌, ◌-◌, ◌*◌, ◌/◌, ◌%◌, ◌^◌, ◌<◌, ◌≤◌, length, take, get_or};
 ghost use Rattle.lists.specs.Lists.{splice, part};
 ghost use Rattle.frames.specs.Hex.{hex_digit, pair, pairs};

@@ -1,0 +1,12 @@
+use Rattle.ends.proofs.Laws as laws
+use borrow.Author.Rules.{rules}
+use Rattle.ends.proofs.line_end.Goals as goal
+
+pub returns-then-text-i-eq-LINE_END : goal.returns-then-text-i-eq-LINE_END
+returns-then-text-i-eq-LINE_END c = search (rules, laws.line_met)
+
+pub loop-i-preserved : goal.loop-i-preserved
+loop-i-preserved c = search (rules, laws.line_on)
+
+pub returns : goal.returns
+returns c = search (rules, laws.line_last)

@@ -1,0 +1,10 @@
+use Prim.Native.Nat.{◌-◌, ◌≤◌, min}
+use lib.ListN.{length}
+use Rattle.evaluator.specs.Pending.{top, second, joined, Done}
+use Rattle.evaluator.proofs.both.Given as goal
+
+abbrev pub invariant-loop-i : goal.invariant-loop-i
+invariant-loop-i l = (l.i ≤ length l.words) × Done (λ j w. joined w (min (second w) (top w))) l.i l.initial.words l.words
+
+abbrev pub decreases-loop-i : goal.decreases-loop-i
+decreases-loop-i l = length l.words - l.i

@@ -1,0 +1,6 @@
+use borrow.Author.Rules.{rules}
+use Rattle.firstpass.proofs.Laws as laws
+use Rattle.firstpass.proofs.field.Goals as goal
+
+pub returns : goal.returns
+returns c = search (rules, laws.field-part)

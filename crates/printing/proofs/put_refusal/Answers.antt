@@ -1,0 +1,8 @@
+use Rattle.printing.proofs.PrintLaws as laws
+use Rattle.printing.proofs.put_refusal.Goals as goal
+
+pub returns-then-out-lt15 : goal.returns-then-out-lt15
+returns-then-out-lt15 c = laws.no_refusal _ _ _ _ c.if-out-lt15.true
+
+pub returns : goal.returns
+returns c = let put = c.put_number_frame.ensures in laws.refusal_put _ _ _ _ _ _ c.if-out-lt15.false put.0 put.1

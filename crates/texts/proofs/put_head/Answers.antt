@@ -1,0 +1,6 @@
+use borrow.Author.Rules.{rules}
+use Rattle.texts.proofs.Laws as laws
+use Rattle.texts.proofs.put_head.Goals as goal
+
+pub returns : goal.returns
+returns c = search (rules, laws.head_frames)
