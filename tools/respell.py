@@ -20,7 +20,7 @@ DECLARED = re.compile(
     r"(?m)^\s*(?:(?:abbrev|unfoldable|pub|opaque|data|record|mutual)\s+)*(" + NAME + r")\s*(?:\{[^{}\n]*\}\s*)*:(?=\s)"
 )
 FIELD = re.compile(r"[{;]\s*(" + NAME + r")\s*:\s")
-OF_STD = set("length append take drop get_or set map replicate min max ones nil cons all reverse sum".split())
+OF_STD = set("not true false length append take drop get_or set map replicate min max ones nil cons all reverse sum".split())
 TABLE = os.path.join(os.path.dirname(os.path.realpath(__file__)), "names.tsv")
 
 
