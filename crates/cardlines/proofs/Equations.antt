@@ -1,133 +1,106 @@
 -- Laws of equations and of the property.
-use mathlib.Core.Path.{◌≡◌, refl, sym, ap, ap₂, ◌∙◌, subst}
-use mathlib.Core.Bool.{true, false, not}
-use mathlib.Core.List.{List, [], ◌∷◌, ◌++◌}
+use Rattle.std.proofs.Common.{◌≡◌, refl, sym, ap, ap₂, ◌∙◌, subst, Bool, true, false, not, List, [], ◌∷◌, ◌++◌, ℕ, ◌+◌, ◌-◌, ◌<◌, ◌≤◌, length, take, drop, Result, Ok, Err, arith}
 use mathlib.Core.Option.{none, some}
-use Prim.Native.Nat.{ℕ, ◌+◌, ◌-◌, ◌<◌, ◌≤◌}
-use native.Mathlib.Omega.{arith}
-use lib.ListN.{length, take, set, length-append}
+use lib.Seq.{take-append_seam, take_all}
 use borrow.Author.Tests.{lt-ltb, le-ltb}
-use Rattle.lists.specs.Lists.{padded, splice, part}
+use Rattle.lists.specs.Lists.{padded, part}
 use Rattle.lists.specs.Texts.{bytes}
 use Rattle.sets.specs.Sets.{has, inside}
-use Rattle.logic.specs.Expressions.{Expr, nodes, written, temporal, code}
+use Rattle.logic.specs.Expressions.{Expr, nodes, written, temporal, code, Narrow}
 use Rattle.logic.specs.Decks.{Equation, total_nodes}
-use Rattle.logic.proofs.Codes.{length-code}
-use Rattle.decks.specs.declared.Answer.TheVariants.{Fine, NotDue, Outside, Temporal, ManyEquations, ManyNodes}
-use Rattle.decks.specs.Answers.{Outcome, Got, Refused, afterwards}
+use Rattle.logic.proofs.Codes.{below_more, length-code}
+use Rattle.terms.specs.Nodes.{some_temporal}
+use Rattle.terms.proofs.Trees.{temporal-code}
+use Rattle.decks.specs.declared.Refusal.{Refusal}
+use Rattle.decks.specs.declared.Refusal.TheVariants.{NotDue, Outside, Temporal, ManyEquations, ManyNodes}
+use Rattle.decks.specs.declared.Equations.{Equations}
+use Rattle.decks.specs.Answers.{Outcome, Refused, afterwards}
+use Rattle.decks.specs.Lent.{Hold}
 use Rattle.cards.specs.Typed.{Typed, first_vars}
-use Rattle.cards.specs.Read.{behind, DueEquation, DueEnd, Sofar, whole_expr, with_equation, equation_statement, prop_statement}
+use Rattle.cards.specs.Read.{behind, Sofar, whole_expr, with_equation, equation_statement, prop_statement}
+use Rattle.cards.proofs.WordLaws.{whole_expr_got}
+use Rattle.grammar.specs.declared.Digits.{Digits}
 use Rattle.grammar.specs.Ahead.{ahead}
 use Rattle.grammar.specs.Readers.{Numbers, Words}
-use Rattle.grammar.specs.declared.Digits.{Digits}
-use Rattle.grammar.specs.declared.Word.{Word}
-use Rattle.sorting.specs.Sorting.{Added}
-use Rattle.decks.proofs.Stored.{total_more, equations_more}
-use Rattle.cardlines.specs.declared.Held.{Held}
-use Rattle.cardlines.specs.declared.StatementRead.{StatementRead}
-use Rattle.cardlines.specs.declared.ExprRead.{ExprRead}
-use Rattle.cardlines.specs.Held.{Small, Holds, Came, refused_as, ExprCame, WithCame}
-use Rattle.cardlines.proofs.Laws.{not-true, not-false, came_refused, words_none, words_some, numbers_none, numbers-some}
-use Rattle.cardlines.proofs.Written.{has_first, has_not_first}
+use Rattle.phrases.specs.declared.Stop.{Stop}
+use Rattle.phrases.specs.Phrases.{refusal_of, Filled, Unfilled}
+use Rattle.sorting.specs.Sorting.{used, added}
+use Rattle.sorting.proofs.Laws.{used_is, added_holds}
+use Rattle.cardlines.specs.Held.{within_all, EquationCame, PropCame}
+use Rattle.cardlines.proofs.Written.{has_first, has_not_first, within-code}
 
 -- ---- 9, 10, 13 and 14 of an equation
 
-pub with_small : (h : Held) (k : ℕ) → Small h → h.equations + 1 ≤ 256 → h.used + k ≤ 2048 → Small (record { due = 3; count = h.count; typed = h.typed; initials = h.initials; equations = h.equations + 1; used = h.used + k; size = h.size })
-with_small h k m l u = record { variables-most = m.variables-most; typed-most = m.typed-most; initials-most = m.initials-most; equations-most = l; nodes-most = u }
-
-module _ (n : ℕ) (h : Held) (left w : ℕ) (e : ExprRead) (scratch : List ℕ) (s : Sofar) (inits lefts ends nodes' property : List ℕ) (H : Holds s h inits lefts ends nodes' property) (W : w ≡ left) (x : Expr) (E : ExprCame s.typed.count (Got x) e scratch) where
+module _ (n count left : ℕ) (cs : List ℕ) (e : Equations) (t : Typed) (x : Expr) (C : count ≡ t.count) (H : Hold t.equations e) (N : Narrow x) (S : cs ≡ code x) where
   abbrev its : Equation
   its = record { left = left; right = x }
 
-  variables : h.count ≡ s.typed.count
-  variables = ap (λ (y : Held). y.count) H.held_is
+  within_as : inside (written x) (first_vars t.count) ≡ within_all count cs
+  within_as = sym (ap₂ within_all C S ∙ within-code t.count x N)
 
-  within_as : inside (written x) (first_vars s.typed.count) ≡ e.within
-  within_as = sym (ap (λ (y : ExprRead). y.within) E.0)
+  temporal_as : temporal x ≡ some_temporal (part 0 (length cs) cs)
+  temporal_as = sym (ap some_temporal (take_all (length cs - 0) cs (omega arith) ∙ S) ∙ temporal-code x N)
 
-  temporal_as : temporal x ≡ e.temporal
-  temporal_as = sym (ap (λ (y : ExprRead). y.temporal) E.0)
+  nodes_as : length cs ≡ nodes x
+  nodes_as = ap (λ (l : List ℕ). length l) S ∙ length-code x
 
-  nodes_as : e.nodes ≡ nodes x
-  nodes_as = ap (λ (y : ExprRead). y.nodes) E.0
-
-  pub with_outside : (r : StatementRead) (lefts'' ends'' nodes'' : List ℕ) → h.count ≤ w → r ≡ refused_as (Outside 1 n) → Came (with_equation n s.typed its) r inits lefts'' ends'' nodes'' property
+  pub with_outside : (w : ℕ) → w ≡ left → count ≤ w → with_equation n t its ≡ Refused (Outside 1 n)
   unfolding with_equation
-  with_outside r lefts'' ends'' nodes'' l q =
-      let no : not (has (first_vars s.typed.count) left) ≡ true = ap not (has_not_first s.typed.count left (omega (arith, l, W, variables))) in
-      let z : with_equation n s.typed its ≡ Refused (Outside 1 n) = simp (no, with_equation) in
-      came_refused (with_equation n s.typed its) (Outside 1 n) r inits lefts'' ends'' nodes'' property z q
+  with_outside w q l = simp (ap not (has_not_first t.count left (omega (arith, l, q, C))), with_equation)
 
-  module _ (l : w < h.count) where
-    yes : not (has (first_vars s.typed.count) left) ≡ false
-    yes = ap not (has_first s.typed.count left (omega (arith, l, W, variables)))
+  module _ (w : ℕ) (q : w ≡ left) (l : w < count) where
+    yes : not (has (first_vars t.count) left) ≡ false
+    yes = ap not (has_first t.count left (omega (arith, l, q, C)))
 
-    pub with_vars : (r : StatementRead) (lefts'' ends'' nodes'' : List ℕ) → not e.within ≡ true → r ≡ refused_as (Outside 1 n) → Came (with_equation n s.typed its) r inits lefts'' ends'' nodes'' property
+    pub with_vars : (b : Bool) → b ≡ within_all count cs → not b ≡ true → with_equation n t its ≡ Refused (Outside 1 n)
     unfolding with_equation
-    with_vars r lefts'' ends'' nodes'' p q =
-        let z : with_equation n s.typed its ≡ Refused (Outside 1 n) = simp (yes, ap not within_as ∙ p, with_equation) in
-        came_refused (with_equation n s.typed its) (Outside 1 n) r inits lefts'' ends'' nodes'' property z q
+    with_vars b B p = simp (yes, ap not (within_as ∙ sym B) ∙ p, with_equation)
 
-    module _ (p : not e.within ≡ false) where
-      pub with_temporal : (r : StatementRead) (lefts'' ends'' nodes'' : List ℕ) → e.temporal ≡ true → r ≡ refused_as (Temporal n) → Came (with_equation n s.typed its) r inits lefts'' ends'' nodes'' property
+    module _ (b : Bool) (B : b ≡ within_all count cs) (p : not b ≡ false) where
+      inner : not (inside (written x) (first_vars t.count)) ≡ false
+      inner = ap not (within_as ∙ sym B) ∙ p
+
+      pub with_temporal : (d : Bool) → d ≡ some_temporal (part 0 (length cs) cs) → d ≡ true → with_equation n t its ≡ Refused (Temporal n)
       unfolding with_equation
-      with_temporal r lefts'' ends'' nodes'' t q =
-          let z : with_equation n s.typed its ≡ Refused (Temporal n) = simp (yes, ap not within_as ∙ p, temporal_as ∙ t, with_equation) in
-          came_refused (with_equation n s.typed its) (Temporal n) r inits lefts'' ends'' nodes'' property z q
+      with_temporal d D z = simp (yes, inner, temporal_as ∙ sym D ∙ z, with_equation)
 
-      module _ (t : e.temporal ≡ false) where
-        count_as : h.equations ≡ length s.typed.equations
-        count_as = ap (λ (y : Held). y.equations) H.held_is
+      module _ (d : Bool) (D : d ≡ some_temporal (part 0 (length cs) cs)) (z : d ≡ false) where
+        plain : temporal x ≡ false
+        plain = temporal_as ∙ sym D ∙ z
 
-        used_as : h.used ≡ total_nodes s.typed.equations
-        used_as = ap (λ (y : Held). y.used) H.held_is
-
-        pub with_many : (r : StatementRead) (lefts'' ends'' nodes'' : List ℕ) → 256 < h.equations + 1 → r ≡ refused_as (ManyEquations n) → Came (with_equation n s.typed its) r inits lefts'' ends'' nodes'' property
+        pub with_many : 256 ≤ e.count → with_equation n t its ≡ Refused (ManyEquations n)
         unfolding with_equation
-        with_many r lefts'' ends'' nodes'' m q =
-            let z : with_equation n s.typed its ≡ Refused (ManyEquations n) = simp (yes, ap not within_as ∙ p, temporal_as ∙ t, lt-ltb 256 (length s.typed.equations + 1) (omega (arith, m, count_as)), with_equation) in
-            came_refused (with_equation n s.typed its) (ManyEquations n) r inits lefts'' ends'' nodes'' property z q
+        with_many m = simp (yes, inner, plain, lt-ltb 256 (length t.equations + 1) (omega (arith, m, H.count_is)), with_equation)
 
-        module _ (m : h.equations + 1 ≤ 256) where
-          pub with_nodes : (r : StatementRead) (lefts'' ends'' nodes'' : List ℕ) → 2048 < h.used + e.nodes → r ≡ refused_as (ManyNodes n) → Came (with_equation n s.typed its) r inits lefts'' ends'' nodes'' property
-          unfolding with_equation
-          with_nodes r lefts'' ends'' nodes'' u q =
-              let z : with_equation n s.typed its ≡ Refused (ManyNodes n) =
-              simp (yes, ap not within_as ∙ p, temporal_as ∙ t, le-ltb 256 (length s.typed.equations + 1) (omega (arith, m, count_as)), lt-ltb 2048 (total_nodes s.typed.equations + nodes x) (omega (arith, u, used_as, nodes_as)), with_equation) in
-              came_refused (with_equation n s.typed its) (ManyNodes n) r inits lefts'' ends'' nodes'' property z q
+        module _ (m : e.count < 256) (u : ℕ) (U : u ≡ used e) where
+          few : length t.equations + 1 ≤ 256
+          few = omega (arith, m, H.count_is)
 
-          pub with_fine : (lefts'' ends'' nodes'' : List ℕ) → h.used + e.nodes ≤ 2048 → Added left (part 0 e.nodes scratch) (record { equations = h.equations; used = h.used }) lefts ends nodes' lefts'' ends'' nodes''
-              → Came (with_equation n s.typed its) (record { fine = true; answer = Fine; held = record { due = 3; count = h.count; typed = h.typed; initials = h.initials; equations = h.equations + 1; used = h.used + e.nodes; size = h.size } }) inits lefts'' ends'' nodes'' property
+          end : u + length cs ≡ total_nodes t.equations + nodes x
+          end = omega (arith, U, used_is t.equations e H, nodes_as)
+
+          pub with_nodes : 2048 < u + length cs → with_equation n t its ≡ Refused (ManyNodes n)
           unfolding with_equation
-          with_fine lefts'' ends'' nodes'' u a =
-              let t₀ : Typed = s.typed in
-              let qs : List Equation = s.typed.equations in
-              let next : Sofar = record { due = DueEquation; typed = record { count = t₀.count; inits = t₀.inits; equations = qs ++ (its ∷ []); property = t₀.property } } in
-              let z : with_equation n s.typed its ≡ Got next =
-              simp (yes, ap not within_as ∙ p, temporal_as ∙ t, le-ltb 256 (length qs + 1) (omega (arith, m, count_as)), le-ltb 2048 (total_nodes qs + nodes x) (omega (arith, u, used_as, nodes_as)), with_equation) in
-              let less : e.nodes - 0 ≡ nodes x = omega (arith, nodes_as) in
-              let stored : part 0 e.nodes scratch ≡ code x = ap (λ (j : ℕ). take j scratch) less ∙ E.1 in
-              let more = equations_more qs its lefts ends nodes' (length qs) (omega (arith, m, count_as)) H.equations_are in
-              let end : h.used + length (part 0 e.nodes scratch) ≡ total_nodes qs + nodes x = omega (arith, ap (λ (l : List ℕ). length l) stored, length-code x, used_as) in
-              let count : h.equations + 1 ≡ length (qs ++ (its ∷ [])) = omega (arith, count_as, length-append qs (its ∷ [])) in
-              let used : h.used + e.nodes ≡ total_nodes (qs ++ (its ∷ [])) = omega (arith, used_as, nodes_as, total_more its qs) in
-              subst (λ (o : Outcome Sofar). Came o (record { fine = true; answer = Fine; held = record { due = 3; count = h.count; typed = h.typed; initials = h.initials; equations = h.equations + 1; used = h.used + e.nodes; size = h.size } }) inits lefts'' ends'' nodes'' property) (sym z) (
-                refl,
-                record {
-                  held_is =
-                      ap₂ (λ (i j : ℕ). record { due = 3; count = h.count; typed = h.typed; initials = h.initials; equations = i; used = j; size = h.size }) count used
-                      ∙ ap (λ (y : Held). record { due = 3; count = y.count; typed = y.typed; initials = y.initials; equations = length (qs ++ (its ∷ [])); used = total_nodes (qs ++ (its ∷ [])); size = h.size }) H.held_is;
-                  inits_are = H.inits_are;
-                  equations_are =
-                      record {
-                        lefts_are = a.lefts_more ∙ ap (λ (i : ℕ). set lefts i left) count_as ∙ more.lefts_are;
-                        ends_are = a.ends_more ∙ ap₂ (λ (i j : ℕ). set ends i j) count_as end ∙ more.ends_are;
-                        nodes_are = a.nodes_more ∙ ap₂ (λ (i : ℕ) (l : List ℕ). splice i l nodes') used_as stored ∙ more.nodes_are;
-                        count_is = refl;
-                      };
-                  property_is = tt;
-                },
-              )
+          with_nodes k = simp (yes, inner, plain, le-ltb 256 (length t.equations + 1) few, lt-ltb 2048 (total_nodes t.equations + nodes x) (omega (arith, k, end)), with_equation)
+
+          pub with_fine : (out : Equations) → u + length cs ≤ 2048 → out ≡ added left cs e → EquationCame (with_equation n t its) t (Ok tt) out
+          unfolding with_equation
+          with_fine out k q = (
+            its,
+            simp (yes, inner, plain, le-ltb 256 (length t.equations + 1) few, le-ltb 2048 (total_nodes t.equations + nodes x) (omega (arith, k, end)), with_equation),
+            subst (λ (y : Equations). Hold (t.equations ++ (its ∷ [])) y) (sym (q ∙ ap (λ (l : List ℕ). added left l e) S)) (added_holds t.equations its e (omega (arith, few)) H),
+          )
+
+-- ---- the expression read
+
+module _ (chars : List ℕ) (at n : ℕ) (out after : List ℕ) (k : ℕ) (F : Filled chars at out k after) where
+  stored : take k after ≡ code F.its
+  stored =
+      ap₂ (λ (j : ℕ) (l : List ℕ). take j l) (F.many ∙ sym (length-code F.its)) F.stored
+      ∙ take-append_seam (code F.its) (drop (0 + length (code F.its)) out)
+
+  narrow : Narrow F.its
+  narrow = below_more 100 256 F.its (omega arith) (whole_expr_got n (ahead chars at) F.its (F.told n)).2
 
 -- ---- `Vi=` and an expression
 
@@ -135,110 +108,63 @@ sign_as : bytes "=" ≡ 61 ∷ []
 unfolding bytes
 sign_as = refl
 
-expr_stopped : (count : ℕ) (o : Outcome Expr) (e : ExprRead) (scratch : List ℕ) → ExprCame count o e scratch → e.fine ≡ false → o ≡ Refused e.answer
-expr_stopped count (Got x) e scratch E f = let z : true ≡ false = sym (ap (λ (y : ExprRead). y.fine) E.0) ∙ f in let w : ◌≡◌ {A = ℕ} 0 1 = cc in absurd (omega arith)
-expr_stopped count (Refused a) e scratch E f = ap Refused (sym E.1)
-
-expr_taken : (count : ℕ) (o : Outcome Expr) (e : ExprRead) (scratch : List ℕ) → ExprCame count o e scratch → e.fine ≡ true → (x : Expr) × (o ≡ Got x) × ExprCame count (Got x) e scratch
-expr_taken count (Got x) e scratch E f = (x, refl, E)
-expr_taken count (Refused a) e scratch E f = let z : false ≡ true = sym E.0 ∙ f in let w : ◌≡◌ {A = ℕ} 0 1 = cc in absurd (omega arith)
-
-pub nodes-there : (k end : ℕ) (scratch out : List ℕ) → length out ≡ length scratch → k ≤ end → end ≤ length scratch → k ≤ length out
-nodes-there k end scratch out e h l = omega (arith, e, h, l)
-
-pub scratch_most : (scratch out : List ℕ) → length out ≡ length scratch → length scratch ≡ 1320 → length out ≤ 1320
-scratch_most scratch out e l = omega (arith, e, l)
-
-pub scratch_long : (scratch out : List ℕ) → length out ≡ length scratch → length scratch ≡ 1320 → length out ≡ 1320
-scratch_long scratch out e l = e ∙ l
-
-module _ (chars : List ℕ) (at end n : ℕ) (h : Held) (v : Digits) (N : Numbers chars at end v) (s : Sofar) (inits lefts ends nodes' property : List ℕ) (H : Holds s h inits lefts ends nodes' property) where
-  pub equation_number : (r : StatementRead) (lefts'' ends'' nodes'' : List ℕ) → not v.ok ≡ true → r ≡ refused_as (NotDue n) → Came (equation_statement n (ahead chars at end) s.typed) r inits lefts'' ends'' nodes'' property
+module _ (chars : List ℕ) (at n : ℕ) (t : Typed) where
+  pub equation_number : (p : ℕ) → Numbers chars at (Err p) → equation_statement n (ahead chars at) t ≡ Refused (NotDue n)
   unfolding equation_statement
-  equation_number r lefts'' ends'' nodes'' f q =
-      let z : equation_statement n (ahead chars at end) s.typed ≡ Refused (NotDue n) = simp (numbers_none chars at end v N (not-true v.ok f), equation_statement) in
-      came_refused (equation_statement n (ahead chars at end) s.typed) (NotDue n) r inits lefts'' ends'' nodes'' property z q
+  equation_number p N = simp (N.1, equation_statement)
 
-  module _ (f : not v.ok ≡ false) (w : Word) (W : Words chars v.next end (61 ∷ []) w) where
-    pub equation_sign : (r : StatementRead) (lefts'' ends'' nodes'' : List ℕ) → not w.found ≡ true → r ≡ refused_as (NotDue n) → Came (equation_statement n (ahead chars at end) s.typed) r inits lefts'' ends'' nodes'' property
+  module _ (d : Digits) (N : Numbers chars at (Ok d)) where
+    pub equation_sign : (p : ℕ) → Words chars d.next (61 ∷ []) (Err p) → equation_statement n (ahead chars at) t ≡ Refused (NotDue n)
     unfolding equation_statement
-    equation_sign r lefts'' ends'' nodes'' g q =
-        let b : behind (bytes "=") (ahead chars v.next end) ≡ none = ap (λ (l : List ℕ). behind l (ahead chars v.next end)) sign_as ∙ words_none chars v.next end (61 ∷ []) w W (not-true w.found g) in
-        let z : equation_statement n (ahead chars at end) s.typed ≡ Refused (NotDue n) = simp (numbers-some chars at end v N (not-false v.ok f), b, equation_statement) in
-        came_refused (equation_statement n (ahead chars at end) s.typed) (NotDue n) r inits lefts'' ends'' nodes'' property z q
+    equation_sign p W =
+        let b : behind (bytes "=") (ahead chars d.next) ≡ none = ap (λ (l : List ℕ). behind l (ahead chars d.next)) sign_as ∙ W.1 in
+        simp (N.2, b, equation_statement)
 
-    module _ (g : not w.found ≡ false) (e : ExprRead) (scratch : List ℕ) (E : ExprCame h.count (whole_expr n (ahead chars w.next end)) e scratch) where
-      equation_read : equation_statement n (ahead chars at end) s.typed ≡ afterwards (whole_expr n (ahead chars w.next end)) (λ x. with_equation n s.typed (record { left = v.value; right = x }))
+    module _ (from : ℕ) (W : Words chars d.next (61 ∷ []) (Ok from)) where
+      equation_read : equation_statement n (ahead chars at) t ≡ afterwards (whole_expr n (ahead chars from)) (λ x. with_equation n t (record { left = d.value; right = x }))
       unfolding equation_statement
       equation_read =
-          let b : behind (bytes "=") (ahead chars v.next end) ≡ some (ahead chars w.next end) = ap (λ (l : List ℕ). behind l (ahead chars v.next end)) sign_as ∙ words_some chars v.next end (61 ∷ []) w W (not-false w.found g) in
-          simp (numbers-some chars at end v N (not-false v.ok f), b, equation_statement)
+          let b : behind (bytes "=") (ahead chars d.next) ≡ some (ahead chars from) = ap (λ (l : List ℕ). behind l (ahead chars d.next)) sign_as ∙ W.1 in
+          simp (N.2, b, equation_statement)
 
-      pub equation_stopped : (r : StatementRead) (lefts'' ends'' nodes'' : List ℕ) → not e.fine ≡ true → r ≡ refused_as e.answer → Came (equation_statement n (ahead chars at end) s.typed) r inits lefts'' ends'' nodes'' property
-      equation_stopped r lefts'' ends'' nodes'' k q =
-          let o : whole_expr n (ahead chars w.next end) ≡ Refused e.answer = expr_stopped h.count (whole_expr n (ahead chars w.next end)) e scratch E (not-true e.fine k) in
-          came_refused (equation_statement n (ahead chars at end) s.typed) e.answer r inits lefts'' ends'' nodes'' property
-          (equation_read ∙ ap (λ (y : Outcome Expr). afterwards y (λ x. with_equation n s.typed (record { left = v.value; right = x }))) o) q
+      module _ (out after : List ℕ) where
+        pub equation_stopped : (s : Stop) → Unfilled chars from out s after → equation_statement n (ahead chars at) t ≡ Refused (refusal_of n s)
+        equation_stopped s F = equation_read ∙ ap (λ (y : Outcome Expr). afterwards y (λ x. with_equation n t (record { left = d.value; right = x }))) (F.told n)
 
-      pub equation_with : (r : StatementRead) (lefts'' ends'' nodes'' : List ℕ) → not e.fine ≡ false
-          → ((s : Sofar) (inits property : List ℕ) → Holds s h inits lefts ends nodes' property → WithCame n s.typed v.value e scratch r inits lefts'' ends'' nodes'' property)
-          → Came (equation_statement n (ahead chars at end) s.typed) r inits lefts'' ends'' nodes'' property
-      equation_with r lefts'' ends'' nodes'' k c =
-          let t = expr_taken h.count (whole_expr n (ahead chars w.next end)) e scratch E (not-false e.fine k) in
-          let count : h.count ≡ s.typed.count = ap (λ (y : Held). y.count) H.held_is in
-          let E' : ExprCame s.typed.count (Got t.0) e scratch = subst (λ (j : ℕ). ExprCame j (Got t.0) e scratch) count t.2 in
-          subst (λ (o : Outcome Sofar). Came o r inits lefts'' ends'' nodes'' property)
-          (sym (equation_read ∙ ap (λ (y : Outcome Expr). afterwards y (λ x. with_equation n s.typed (record { left = v.value; right = x }))) t.1))
-          (c s inits property H t.0 E')
+        pub equation_with : (k : ℕ) → Filled chars from out k after → (r : Result (Unit {0}) Refusal) (e : Equations)
+            → ((x : Expr) → Narrow x → take k after ≡ code x → EquationCame (with_equation n t (record { left = d.value; right = x })) t r e)
+            → EquationCame (equation_statement n (ahead chars at) t) t r e
+        equation_with k F r e c =
+            subst
+            (λ (o : Outcome Sofar). EquationCame o t r e)
+            (sym (equation_read ∙ ap (λ (y : Outcome Expr). afterwards y (λ x. with_equation n t (record { left = d.value; right = x }))) (F.told n)))
+            (c F.its (narrow chars from n out after k F) (stored chars from n out after k F))
 
 -- ---- `PROP`
 
-pub prop_small : (h : Held) (k : ℕ) → Small h → Small (record { due = 4; count = h.count; typed = h.typed; initials = h.initials; equations = h.equations; used = h.used; size = k })
-prop_small h k m = record { variables-most = m.variables-most; typed-most = m.typed-most; initials-most = m.initials-most; equations-most = m.equations-most; nodes-most = m.nodes-most }
-
-module _ (chars : List ℕ) (at end n : ℕ) (h : Held) (e : ExprRead) (scratch : List ℕ) (s : Sofar) (inits lefts ends nodes' property : List ℕ) (H : Holds s h inits lefts ends nodes' property) (E : ExprCame h.count (whole_expr n (ahead chars at end)) e scratch) where
-  pub prop_stopped : (r : StatementRead) (out : List ℕ) → not e.fine ≡ true → r ≡ refused_as e.answer → Came (prop_statement n (ahead chars at end) s.typed) r inits lefts ends nodes' out
+module _ (chars : List ℕ) (at n count : ℕ) (t : Typed) (C : count ≡ t.count) (out after : List ℕ) where
+  pub prop_stopped : (s : Stop) → Unfilled chars at out s after → prop_statement n (ahead chars at) t ≡ Refused (refusal_of n s)
   unfolding prop_statement
-  prop_stopped r out k q =
-      let o : whole_expr n (ahead chars at end) ≡ Refused e.answer = expr_stopped h.count (whole_expr n (ahead chars at end)) e scratch E (not-true e.fine k) in
-      let z : prop_statement n (ahead chars at end) s.typed ≡ Refused e.answer = simp (o, prop_statement) in
-      came_refused (prop_statement n (ahead chars at end) s.typed) e.answer r inits lefts ends nodes' out z q
+  prop_stopped s F = simp (F.told n, prop_statement)
 
-  module _ (k : not e.fine ≡ false) where
-    got : (x : Expr) × (whole_expr n (ahead chars at end) ≡ Got x) × ExprCame h.count (Got x) e scratch
-    got = expr_taken h.count (whole_expr n (ahead chars at end)) e scratch E (not-false e.fine k)
+  module _ (k : ℕ) (F : Filled chars at out k after) (b : Bool) (B : b ≡ within_all count (take k after)) where
+    among : inside (written F.its) (first_vars t.count) ≡ b
+    among = sym (B ∙ ap₂ within_all C (stored chars at n out after k F) ∙ within-code t.count F.its (narrow chars at n out after k F))
 
-    among : inside (written got.0) (first_vars s.typed.count) ≡ e.within
-    among = ap (λ (y : Held). inside (written got.0) (first_vars y.count)) (sym H.held_is) ∙ sym (ap (λ (y : ExprRead). y.within) got.2.0)
-
-    size_as : e.nodes ≡ nodes got.0
-    size_as = ap (λ (y : ExprRead). y.nodes) got.2.0
-
-    pub prop_outside : (r : StatementRead) (out : List ℕ) → not e.within ≡ true → r ≡ refused_as (Outside 1 n) → Came (prop_statement n (ahead chars at end) s.typed) r inits lefts ends nodes' out
+    pub prop_outside : not b ≡ true → prop_statement n (ahead chars at) t ≡ Refused (Outside 1 n)
     unfolding prop_statement
-    prop_outside r out p q =
-        let z : prop_statement n (ahead chars at end) s.typed ≡ Refused (Outside 1 n) = simp (got.1, ap not among ∙ p, prop_statement) in
-        came_refused (prop_statement n (ahead chars at end) s.typed) (Outside 1 n) r inits lefts ends nodes' out z q
+    prop_outside p = simp (F.told n, ap not among ∙ p, prop_statement)
 
-    module _ (p : not e.within ≡ false) where
-      pub prop_many : (r : StatementRead) (out : List ℕ) → 128 < e.nodes → r ≡ refused_as (ManyNodes n) → Came (prop_statement n (ahead chars at end) s.typed) r inits lefts ends nodes' out
+    module _ (p : not b ≡ false) where
+      pub prop_many : 128 < k → prop_statement n (ahead chars at) t ≡ Refused (ManyNodes n)
       unfolding prop_statement
-      prop_many r out m q =
-          let z : prop_statement n (ahead chars at end) s.typed ≡ Refused (ManyNodes n) = simp (got.1, ap not among ∙ p, lt-ltb 128 (nodes got.0) (omega (arith, m, size_as)), prop_statement) in
-          came_refused (prop_statement n (ahead chars at end) s.typed) (ManyNodes n) r inits lefts ends nodes' out z q
+      prop_many m = simp (F.told n, ap not among ∙ p, lt-ltb 128 (nodes F.its) (omega (arith, m, F.many)), prop_statement)
 
-      pub prop_fine : (out : List ℕ) → e.nodes ≤ 128 → out ≡ padded 128 (take e.nodes scratch) → Came (prop_statement n (ahead chars at end) s.typed) (record { fine = true; answer = Fine; held = record { due = 4; count = h.count; typed = h.typed; initials = h.initials; equations = h.equations; used = h.used; size = e.nodes } }) inits lefts ends nodes' out
+      pub prop_fine : (row : List ℕ) → k ≤ 128 → row ≡ padded 128 (take k after) → PropCame (prop_statement n (ahead chars at) t) t (Ok k) row
       unfolding prop_statement
-      prop_fine out m q =
-          let t₀ : Typed = s.typed in
-          let next : Sofar = record { due = DueEnd; typed = record { count = t₀.count; inits = t₀.inits; equations = t₀.equations; property = got.0 } } in
-          let z : prop_statement n (ahead chars at end) t₀ ≡ Got next = simp (got.1, ap not among ∙ p, le-ltb 128 (nodes got.0) (omega (arith, m, size_as)), prop_statement) in
-          subst (λ (o : Outcome Sofar). Came o (record { fine = true; answer = Fine; held = record { due = 4; count = h.count; typed = h.typed; initials = h.initials; equations = h.equations; used = h.used; size = e.nodes } }) inits lefts ends nodes' out) (sym z) (
-            refl,
-            record {
-              held_is = ap (λ (y : Held). record { due = 4; count = y.count; typed = y.typed; initials = y.initials; equations = y.equations; used = y.used; size = e.nodes }) H.held_is;
-              inits_are = H.inits_are;
-              equations_are = H.equations_are;
-              property_is = (size_as, q ∙ ap (padded 128) (ap (λ (j : ℕ). take j scratch) size_as ∙ got.2.1));
-            },
-          )
+      prop_fine row m q = (
+        F.its,
+        simp (F.told n, ap not among ∙ p, le-ltb 128 (nodes F.its) (omega (arith, m, F.many)), prop_statement),
+        F.many,
+        q ∙ ap (padded 128) (stored chars at n out after k F),
+      )

@@ -1,4 +1,3 @@
-pub mod Rows
 pub mod Laws
 pub mod Written
 pub mod Equations

@@ -1,58 +1,46 @@
 -- What the reader of cards holds of the statements so far.
-use Rattle.std.specs.Prelude.{◌≡◌, Bool, true, false, List, [], ◌∷◌, ℕ, ◌≤◌, ltb, length, take}
-use Rattle.lists.specs.Lists.{padded, firsts}
-use Rattle.lists.specs.Texts.{bytes}
-use Rattle.sets.specs.Sets.{inside}
-use Rattle.logic.specs.Expressions.{Expr, nodes, written, temporal, code}
-use Rattle.logic.specs.Decks.{base, total_nodes}
+use Rattle.std.specs.Prelude.{◌≡◌, Bool, not, ◌||◌, List, [], ◌∷◌, ◌++◌, ℕ, ◌+◌, ◌≤◌, ltb, length, take, set, Result, Ok, Err}
+use Rattle.std.specs.List.{list_all}
+use Rattle.lists.specs.Lists.{chosen, stands, padded, firsts}
+use Rattle.logic.specs.Expressions.{Expr, nodes, code}
+use Rattle.logic.specs.Decks.{Equation, base}
 use Rattle.terms.specs.Nodes.{variable?}
-use Rattle.decks.specs.declared.Answer.{Answer}
-use Rattle.decks.specs.declared.Answer.TheVariants.{Fine}
+use Rattle.decks.specs.declared.Refusal.{Refusal}
+use Rattle.decks.specs.declared.Equations.{Equations}
+use Rattle.decks.specs.declared.Deck.{Deck}
 use Rattle.decks.specs.Answers.{Outcome, Got, Refused}
-use Rattle.decks.specs.Lent.{HoldsEquations}
-use Rattle.cards.specs.Typed.{Typed, first_vars}
-use Rattle.cards.specs.Read.{Due, DueVars, DueInit, DueAny, DueEquation, DueEnd, DueNone, Sofar, with_equation}
-use Rattle.grammar.specs.declared.Word.{Word}
-use Rattle.grammar.specs.Readers.{Words}
+use Rattle.decks.specs.Lent.{Hold}
+use Rattle.cards.specs.Typed.{Typed}
+use Rattle.sorting.specs.Sorting.{used}
+use Rattle.cards.specs.Read.{Due, DueVars, DueInit, DueAny, DueEquation, DueEnd, DueNone, Sofar, due_statement}
+use Rattle.cardlines.specs.declared.Due.{Due as DueNow}
+use Rattle.cardlines.specs.declared.Due.TheVariants.{Vars, Init, Any, Equation as AnEquation, End, Nothing}
 use Rattle.cardlines.specs.declared.Held.{Held}
-use Rattle.cardlines.specs.declared.StatementRead.{StatementRead}
-use Rattle.cardlines.specs.declared.ExprRead.{ExprRead}
 
--- Which statements are due, as a number.
-abbrev pub due_number : Due → ℕ
-due_number DueVars = 0
-due_number DueInit = 1
-due_number DueAny = 2
-due_number DueEquation = 3
-due_number DueEnd = 4
-due_number DueNone = 5
+-- Which statements are due, as the code has it.
+abbrev pub due_is : Due → DueNow
+due_is DueVars = Vars
+due_is DueInit = Init
+due_is DueAny = Any
+due_is DueEquation = AnEquation
+due_is DueEnd = End
+due_is DueNone = Nothing
 
--- What is due, the number of variables, of the initial states typed and kept, of the equations and their nodes, beside a size.
-abbrev pub held_of : Sofar → ℕ → Held
-held_of s size =
-    record {
-      due = due_number s.due;
-      count = s.typed.count;
-      typed = length s.typed.inits;
-      initials = length (firsts s.typed.inits);
-      equations = length s.typed.equations;
-      used = total_nodes s.typed.equations;
-      size = size;
-    }
+-- What is due, the number of variables, and how many initial states were typed.
+abbrev pub held_of : Sofar → Held
+held_of s = record { due = due_is s.due; count = s.typed.count; typed = length s.typed.inits }
 
--- What is held keeps the limits.
-pub record Small (h : Held) : Type 0 where
+-- The equations, and their nodes, keep the limits.
+pub record Few (equations : Equations) : Type 0 where
+  pub count-most : equations.count ≤ base.equations
+  pub nodes-most : used equations ≤ base.equation_nodes
+
+-- What is held, and what of the deck is used, keeps the limits.
+pub record Small (h : Held) (deck : Deck) : Type 0 where
   pub variables-most : h.count ≤ base.variables
   pub typed-most : h.typed ≤ base.initials
-  pub initials-most : h.initials ≤ h.typed
-  pub equations-most : h.equations ≤ base.equations
-  pub nodes-most : h.used ≤ base.equation_nodes
-
--- The places of the arrays of equations.
-pub record Lengths (lefts ends nodes : List ℕ) : Type 0 where
-  pub lefts_long : length lefts ≡ base.equations
-  pub ends-long : length ends ≡ base.equations
-  pub nodes-long : length nodes ≡ base.equation_nodes
+  pub initials-most : deck.initials ≤ h.typed
+  pub equations-most : Few deck.equations
 
 -- From `PROP` on: the property and its size.
 abbrev pub PropertyHeld : Due → Expr → ℕ → List ℕ → Type 0
@@ -63,49 +51,60 @@ PropertyHeld DueEquation e size property = Unit
 PropertyHeld DueEnd e size property = (size ≡ nodes e) × (property ≡ padded base.property_nodes (code e))
 PropertyHeld DueNone e size property = (size ≡ nodes e) × (property ≡ padded base.property_nodes (code e))
 
--- What is held, and the arrays, stand for the statements so far.
-pub record Holds (s : Sofar) (h : Held) (inits lefts ends nodes property : List ℕ) : Type 0 where
-  pub held_is : h ≡ held_of s h.size
-  pub inits_are : inits ≡ padded base.initials (firsts s.typed.inits)
-  pub equations_are : HoldsEquations s.typed.equations lefts ends nodes (length s.typed.equations)
-  pub property_is : PropertyHeld s.due s.typed.property h.size property
+-- What is held, and the deck, stand for the statements so far.
+pub record Holds (s : Sofar) (h : Held) (deck : Deck) : Type 0 where
+  pub held_is : h ≡ held_of s
+  pub inits_are : deck.inits ≡ padded base.initials (firsts s.typed.inits)
+  pub initials_are : deck.initials ≡ length (firsts s.typed.inits)
+  pub equations_are : Hold s.typed.equations deck.equations
+  pub property_is : PropertyHeld s.due s.typed.property deck.size deck.property
 
--- A refusal, and zeros beside it.
-abbrev pub refused_as : Answer → StatementRead
-refused_as a = record { fine = false; answer = a; held = record { due = 0; count = 0; typed = 0; initials = 0; equations = 0; used = 0; size = 0 } }
+-- What a statement came to, with the deck behind it.
+abbrev pub Came : Outcome Sofar → Result Held Refusal → Deck → Type 0
+Came o (Ok h) deck = (s : Sofar) × (o ≡ Got s) × Holds s h deck
+Came o (Err a) deck = o ≡ Refused a
 
--- What a statement came to, with the arrays behind it.
-abbrev pub Came : Outcome Sofar → StatementRead → List ℕ → List ℕ → List ℕ → List ℕ → List ℕ → Type 0
-Came (Got s) r inits lefts ends nodes property = (r.fine ≡ true) × Holds s r.held inits lefts ends nodes property
-Came (Refused a) r inits lefts ends nodes property = r ≡ refused_as a
+-- What was typed, with this number of variables.
+abbrev pub with_count : ℕ → Typed → Typed
+with_count k t = record { count = k; inits = t.inits; equations = t.equations; property = t.property }
 
--- Whether nothing is there.
-abbrev pub none? : List ℕ → Bool
-none? [] = true
-none? (c ∷ cs) = false
+-- What was typed, with one equation more.
+abbrev pub with_one : Equation → Typed → Typed
+with_one q t = record { count = t.count; inits = t.inits; equations = t.equations ++ (q ∷ []); property = t.property }
 
--- Whether the node is a variable, and not one of the first.
-unfoldable pub outside? : ℕ → ℕ → Bool
-outside? count c = elim (ltb c count) [ true ↦ false | false ↦ variable? c ]
+-- What was typed, with this property.
+abbrev pub with_property : Expr → Typed → Typed
+with_property e t = record { count = t.count; inits = t.inits; equations = t.equations; property = e }
 
--- Whether the variables among the nodes are all among the first.
-unfoldable pub within_all : ℕ → List ℕ → Bool
-within_all count [] = true
-within_all count (c ∷ cs) = elim (outside? count c) [ true ↦ false | false ↦ within_all count cs ]
+-- What `VARS` came to, whatever was typed before.
+abbrev pub VarsCame : ℕ → List ℕ → Result ℕ Refusal → Type 0
+VarsCame n cs (Ok k) = (k ≤ base.variables) × ((t : Typed) → due_statement DueVars n cs t ≡ Got (record { due = DueInit; typed = with_count k t }))
+VarsCame n cs (Err a) = (t : Typed) → due_statement DueVars n cs t ≡ Refused a
 
--- What an expression came to, with the scratch row behind it.
-abbrev pub ExprCame : ℕ → Outcome Expr → ExprRead → List ℕ → Type 0
-ExprCame count (Got e) r scratch =
-    (r ≡ record { fine = true; answer = Fine; nodes = nodes e; within = inside (written e) (first_vars count); temporal = temporal e }) × (take (nodes e) scratch ≡ code e)
-ExprCame count (Refused a) r scratch = (r.fine ≡ false) × (r.answer ≡ a)
+-- What `END` came to, whatever was typed before.
+abbrev pub EndCame : ℕ → List ℕ → Result (Unit {0}) Refusal → Type 0
+EndCame n cs (Ok u) = (t : Typed) → due_statement DueEnd n cs t ≡ Got (record { due = DueNone; typed = t })
+EndCame n cs (Err a) = (t : Typed) → due_statement DueEnd n cs t ≡ Refused a
 
--- What the equation of this variable and the expression just read came to.
-abbrev pub WithCame : ℕ → Typed → ℕ → ExprRead → List ℕ → StatementRead → List ℕ → List ℕ → List ℕ → List ℕ → List ℕ → Type 0
-WithCame n t left e scratch r inits lefts ends nodes property =
-    (x : Expr) → ExprCame t.count (Got x) e scratch → Came (with_equation n t (record { left = left; right = x })) r inits lefts ends nodes property
+-- The deck with this state behind its initial states, if none of them equals it.
+abbrev pub kept : ℕ → Deck → Deck
+kept s deck = chosen (stands s (take deck.initials deck.inits)) deck (record deck { inits = set deck.inits deck.initials s; initials = deck.initials + 1 })
 
--- Whether `INIT` begins the statement, and where it goes on; where an equation or the property is due it does not.
-pub record InitWord (chars : List ℕ) (end due : ℕ) (w : Word) : Type 0 where
-  pub within : w.next ≤ end
-  pub told : (due ≡ due_number DueEquation → ⊥) → Words chars 0 end (bytes "INIT") w
-  pub passed : due ≡ due_number DueEquation → w.found ≡ false
+-- The node is no variable, or one of the first.
+abbrev pub among? : ℕ → ℕ → Bool
+among? count c = ltb c count || not (variable? c)
+
+-- The variables among the nodes are all among the first.
+abbrev pub within_all : ℕ → List ℕ → Bool
+within_all count cs = list_all (among? count) cs
+
+-- What an equation came to, with the equations behind it.
+abbrev pub EquationCame : Outcome Sofar → Typed → Result (Unit {0}) Refusal → Equations → Type 0
+EquationCame o t (Ok u) equations = (q : Equation) × (o ≡ Got (record { due = DueEquation; typed = with_one q t })) × Hold (t.equations ++ (q ∷ [])) equations
+EquationCame o t (Err a) equations = o ≡ Refused a
+
+-- What the property came to, with its row behind it.
+abbrev pub PropCame : Outcome Sofar → Typed → Result ℕ Refusal → List ℕ → Type 0
+PropCame o t (Ok size) property =
+    (e : Expr) × (o ≡ Got (record { due = DueEnd; typed = with_property e t })) × (size ≡ nodes e) × (property ≡ padded base.property_nodes (code e))
+PropCame o t (Err a) property = o ≡ Refused a

@@ -11,7 +11,7 @@ use lib.Dec.{ltb}
 use lib.ListN.{length, get_or}
 use Rattle.lists.specs.Lists.{Each}
 use Rattle.lists.proofs.Laws.{each_map}
-use Rattle.decks.specs.declared.Answer.TheVariants.{BadByte, TooWide, BadStart, BadNumber}
+use Rattle.decks.specs.declared.Refusal.TheVariants.{BadByte, TooWide, BadStart, BadNumber}
 use Rattle.decks.specs.Answers.{Outcome, Got, Refused, refuse}
 use Rattle.decks.specs.Readings.{walk}
 use Rattle.cards.specs.Card.{blank, card_columns, columns, every, is_blank, is_digit, printable, is_comment, kind_of, numbered, Open, Shut, opened, card_in_form, in_form}

@@ -10,12 +10,12 @@ use Rattle.lists.specs.Lists.{ended, unended, fronted, stands, joined, keep, fir
 use Rattle.lists.specs.Texts.{bytes}
 use Rattle.logic.specs.Expressions.{Expr, Const, Var, One, Two, Not, And, nodes, written, temporal, spelling}
 use Rattle.logic.specs.Decks.{Equation, total_nodes}
+use Rattle.std.specs.Prelude.{Ok}
 use Rattle.logic.proofs.Cases.{worked}
 use Rattle.decks.specs.declared.Reply.{Reply}
-use Rattle.decks.specs.declared.Answer.TheVariants.{Fine, TooManyCards, ManyEquations, ManyNodes}
-use Rattle.decks.specs.Answers.{Got, Refused, reply_of}
+use Rattle.decks.specs.declared.Refusal.TheVariants.{TooManyCards, ManyEquations, ManyNodes}
+use Rattle.decks.specs.Answers.{Got, Refused, reply_to, said}
 use Rattle.decks.specs.Readings.{walk, left_set, complete}
-use Rattle.decks.proofs.Outcomes.{answer_of}
 use Rattle.cards.specs.Card.{blank, columns, every, Continuing, kind_of, Continued, opened, card_in_form}
 use Rattle.cards.specs.Statement.{gathered}
 use Rattle.cards.specs.Grammar.{second_digit, read_number, sign_of, joint_of, past, past_joint, read_expr}
@@ -63,7 +63,7 @@ Row = List ℕ × Reply
 
 -- Every text gets its answer.
 abbrev Answered : List Row → Type 0
-Answered rows = map (λ (r : Row). reply_of (answer_of (read_cards r.0))) rows ≡ map (λ (r : Row). r.1) rows
+Answered rows = map (λ (r : Row). reply_to (said (read_cards r.0))) rows ≡ map (λ (r : Row). r.1) rows
 
 -- A smallest deck.
 abbrev after_vars : List String
@@ -196,7 +196,7 @@ tree zero = Const false
 tree (suc k) = Two And (tree k) (tree k)
 
 -- 13: 256 equations pass, the next does not.
-equations_256 : answer_of (with_equation 7 (typed_with (replicate 255 (of_v0 (Const false)))) (of_v0 (Const false))) ≡ Fine
+equations_256 : said (with_equation 7 (typed_with (replicate 255 (of_v0 (Const false)))) (of_v0 (Const false))) ≡ Ok tt
 unfolding with_equation nodes written temporal total_nodes
 equations_256 = refl
 
@@ -205,7 +205,7 @@ unfolding with_equation nodes written temporal total_nodes
 equations_257 = refl
 
 -- 14: 2,048 nodes over all equations pass, one more does not.
-nodes_2048 : answer_of (with_equation 7 (typed_with (replicate 15 (of_v0 (One Not (tree 6))))) (of_v0 (One Not (tree 6)))) ≡ Fine
+nodes_2048 : said (with_equation 7 (typed_with (replicate 15 (of_v0 (One Not (tree 6))))) (of_v0 (One Not (tree 6)))) ≡ Ok tt
 unfolding tree with_equation nodes written temporal total_nodes
 nodes_2048 = refl
 
@@ -214,7 +214,7 @@ unfolding tree with_equation nodes written temporal total_nodes
 nodes_2049 = refl
 
 -- 14: a property of 128 nodes passes, one of 129 does not.
-property_128 : answer_of (prop_statement 9 (spelling (One Not (tree 6))) (typed_with [])) ≡ Fine
+property_128 : said (prop_statement 9 (spelling (One Not (tree 6))) (typed_with [])) ≡ Ok tt
 unfolding tree prop_statement spelling whole_expr read_expr past_joint past joint_of sign_of nodes written
 property_128 = refl
 

@@ -15,10 +15,10 @@ use Rattle.lists.specs.Texts.{bytes}
 use Rattle.lists.proofs.Laws.{each_map, keep_append, keep_all}
 use Rattle.logic.specs.Expressions.{Expr}
 use Rattle.logic.specs.Decks.{Deck, base}
-use Rattle.decks.specs.declared.Answer.{Answer}
-use Rattle.decks.specs.declared.Answer.TheVariants.{Fine, TooLong, BadByte, TooWide, BadStart, BadNumber, NoneOpen, TooManyCards, NotDue, Outside, Temporal, TooDeep, ManyInitials, ManyEquations, ManyNodes, NoEquation, BadFrame, NoRoom, NotInitial, NoStep, Holding}
+use Rattle.decks.specs.declared.Refusal.{Refusal}
+use Rattle.decks.specs.declared.Refusal.TheVariants.{TooLong, BadByte, TooWide, BadStart, BadNumber, NoneOpen, TooManyCards, NotDue, Outside, Temporal, TooDeep, ManyInitials, ManyEquations, ManyNodes, NoEquation, BadFrame, NoRoom, NotInitial, NoStep, Holding}
 use Rattle.decks.specs.declared.Reply.{Reply}
-use Rattle.decks.specs.Answers.{Outcome, Got, Refused, refuse, afterwards, reply_of}
+use Rattle.decks.specs.Answers.{Outcome, Got, Refused, refuse, afterwards, reply_of, reply_to, said}
 use Rattle.decks.specs.Readings.{Whole, Wrong, Deep, walk, complete}
 use Rattle.cards.specs.Card.{cards_of, Kind, Comment, Empty, Opening, Continuing, kind_of, Open, Shut, Continued, opened, card_in_form, in_form}
 use Rattle.cards.specs.Statement.{Statement, Hand, Nothing, Held, laid, folded, gathered, statements_of}
@@ -27,7 +27,7 @@ use Rattle.cards.specs.Typed.{Typed}
 use Rattle.cards.specs.Columns.{remark, Formed}
 use Rattle.cards.specs.Comments.{uncommented, numbers_from, number_of, CommentsFormed, SameButComments, SamePlace}
 use Rattle.cards.specs.Read.{behind, Due, DueVars, DueInit, DueAny, DueEquation, DueEnd, DueNone, Sofar, begun, whole_expr, whole_number, vars_statement, read_binary, init_statement, with_equation, equation_statement, prop_statement, end_statement, equation_or_prop, due_statement, statement_read, cards_end, read_cards}
-use Rattle.decks.proofs.Outcomes.{refused_got, answer_of, walk_got, walk_once}
+use Rattle.decks.proofs.Outcomes.{refused_got, walk_got, walk_once}
 use Rattle.cards.proofs.StatementLaws.{sofar}
 use Rattle.cards.proofs.FormLaws.{cards_formed}
 use Rattle.cards.proofs.NothingDropped.{nothing_dropped}
@@ -36,8 +36,7 @@ use Rattle.cards.proofs.CardsExactlyWhen.{formed-passes}
 -- ---- answers with their places moved
 
 -- The answer with its place moved by φ. The place of 15 is a variable and stays, as does a place that is always 0.
-abbrev pub moved : (ℕ → ℕ) → Answer → Answer
-moved φ Fine = Fine
+abbrev pub moved : (ℕ → ℕ) → Refusal → Refusal
 moved φ (TooLong t) = TooLong t
 moved φ (BadByte p) = BadByte (φ p)
 moved φ (TooWide p) = TooWide (φ p)
@@ -68,7 +67,7 @@ renumbered_got φ (Got y) x e = e
 renumbered_got φ (Refused a) x e = refused_got e
 
 module _ (φ : ℕ → ℕ) where
-  refuse-moved : {A : Type 0} (t : Bool) (a : Answer) (r : Outcome A) → renumbered φ (refuse t a r) ≡ refuse t (moved φ a) (renumbered φ r)
+  refuse-moved : {A : Type 0} (t : Bool) (a : Refusal) (r : Outcome A) → renumbered φ (refuse t a r) ≡ refuse t (moved φ a) (renumbered φ r)
   refuse-moved true a r = refl
   refuse-moved false a r = refl
 
@@ -253,10 +252,6 @@ comment_means_nothing one other d same formed short e =
 
 -- ---- replies
 
-answer_moved : {A : Type 0} (φ : ℕ → ℕ) (r : Outcome A) → answer_of (renumbered φ r) ≡ moved φ (answer_of r)
-answer_moved φ (Got x) = refl
-answer_moved φ (Refused a) = refl
-
 -- Two replies, one to each text, say the same: one number, one text at fault, and places that name the same.
 abbrev pub SameReply : List ℕ → List ℕ → Reply → Reply → Type 0
 SameReply one other r s = (r.number ≡ s.number) × (r.text ≡ s.text) × SamePlace one other r.number r.place s.place
@@ -265,8 +260,7 @@ module _ (one other : List ℕ) where
   at_card : (number k : ℕ) → eqb number 15 ≡ false → SamePlace one other number (number_of (cards_of one) k) (number_of (cards_of other) k)
   at_card number k e = inr (eqb-false number 15 e, (k, refl, refl))
 
-  moved_alike : (a : Answer) → SameReply one other (reply_of (moved (number_of (cards_of one)) a)) (reply_of (moved (number_of (cards_of other)) a))
-  moved_alike Fine = (refl, refl, at_card 0 0 refl)
+  moved_alike : (a : Refusal) → SameReply one other (reply_of (moved (number_of (cards_of one)) a)) (reply_of (moved (number_of (cards_of other)) a))
   moved_alike (TooLong t) = (refl, refl, at_card 1 0 refl)
   moved_alike (BadByte p) = (refl, refl, at_card 2 p refl)
   moved_alike (TooWide p) = (refl, refl, at_card 3 p refl)
@@ -288,13 +282,15 @@ module _ (one other : List ℕ) where
   moved_alike (NoStep p) = (refl, refl, at_card 21 p refl)
   moved_alike Holding = (refl, refl, at_card 22 0 refl)
 
+  outcomes_alike : {A : Type 0} (o : Outcome A) → SameReply one other (reply_to (said (renumbered (number_of (cards_of one)) o))) (reply_to (said (renumbered (number_of (cards_of other)) o)))
+  outcomes_alike (Got x) = (refl, refl, at_card 0 0 refl)
+  outcomes_alike (Refused a) = moved_alike a
+
 -- The replies to two texts of the same cards but for comments say the same.
 pub comment_same_reply : (one other : List ℕ)
     → SameButComments one other
-    → SameReply one other (reply_of (answer_of (read_cards one))) (reply_of (answer_of (read_cards other)))
-comment_same_reply one other s =
-    let (o, e, f) = comment_moves_places one other s in
-    rw (e, f, answer_moved (number_of (cards_of one)) o, answer_moved (number_of (cards_of other)) o) (moved_alike one other (answer_of o))
+    → SameReply one other (reply_to (said (read_cards one))) (reply_to (said (read_cards other)))
+comment_same_reply one other s = let (o, e, f) = comment_moves_places one other s in rw (e, f) (outcomes_alike one other o)
 
 -- ---- the cards that are no comments
 

@@ -11,7 +11,7 @@ use lib.Dec.{eqb}
 use Rattle.lists.specs.Lists.{◌among◌}
 use Rattle.logic.specs.Expressions.{Expr, One, Two, Op1, Op2, Not, Next, Future, Always, levels, const_sign, sign1, sign2, spelling, Below}
 use Rattle.logic.specs.Decks.{base}
-use Rattle.decks.specs.declared.Answer.TheVariants.{NotDue, TooDeep}
+use Rattle.decks.specs.declared.Refusal.TheVariants.{NotDue, TooDeep}
 use Rattle.decks.specs.Answers.{Outcome, Got, Refused}
 use Rattle.decks.specs.Readings.{Reading, Whole, Wrong, Deep, onward}
 use Rattle.cards.specs.Grammar.{Counted, Number, NoNumber, read_number, Sign, Constant, Variable, Before, Bracket, NoSign, sign_of, joint_of, past, past_joint, variable, levelled, begins, read_expr}

@@ -10,7 +10,7 @@ use lib.Dec.{ltb, eqb}
 use lib.ListN.{length, get_or}
 use Rattle.lists.specs.Lists.{Each}
 use Rattle.lists.proofs.Laws.{each_map, keep_append}
-use Rattle.decks.specs.declared.Answer.TheVariants.{BadNumber, NoneOpen, TooManyCards}
+use Rattle.decks.specs.declared.Refusal.TheVariants.{BadNumber, NoneOpen, TooManyCards}
 use Rattle.decks.specs.Answers.{Got, Refused, refuse}
 use Rattle.decks.specs.Readings.{walk}
 use Rattle.cards.specs.Card.{blank, field_end, card_columns, continuations, columns, every, is_blank, is_digit, printable, Kind, Comment, Empty, Opening, Continuing, is_comment, kind_of, numbered, Open, Shut, Continued, opened, card_in_form, in_form}

@@ -9,7 +9,7 @@ use lib.Dec.{ltb}
 use lib.ListN.{length}
 use Rattle.lists.specs.Lists.{Each, Some, keep}
 use Rattle.logic.specs.Decks.{Equation, Deck, Accepted, base}
-use Rattle.decks.specs.declared.Answer.TheVariants.{NotDue}
+use Rattle.decks.specs.declared.Refusal.TheVariants.{NotDue}
 use Rattle.decks.specs.Answers.{Got, Refused}
 use Rattle.decks.specs.Readings.{walk, complete}
 use Rattle.cards.specs.Card.{cards_of, Open, Shut, in_form}

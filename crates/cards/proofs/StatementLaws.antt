@@ -18,7 +18,7 @@ use Rattle.logic.specs.Expressions.{Expr, Const, nodes, levels, written, tempora
 use Rattle.logic.specs.Decks.{Equation, Allowed, base, total_nodes}
 use Rattle.logic.proofs.Codes.{below_more, written_below}
 use Rattle.logic.proofs.Spelling.{NoDigit}
-use Rattle.decks.specs.declared.Answer.TheVariants.{NotDue, ManyInitials}
+use Rattle.decks.specs.declared.Refusal.TheVariants.{NotDue, ManyInitials}
 use Rattle.decks.specs.Answers.{Outcome, Got, Refused, refuse, afterwards}
 use Rattle.decks.specs.Readings.{walk}
 use Rattle.cards.specs.Statement.{Statement, inked}

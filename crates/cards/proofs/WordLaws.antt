@@ -14,7 +14,7 @@ use Rattle.sets.specs.Sets.{bit}
 use Rattle.sets.proofs.Laws.{bit_or_zero}
 use Rattle.logic.specs.Expressions.{Expr, levels, decimal, spelling, Below}
 use Rattle.logic.specs.Decks.{base}
-use Rattle.decks.specs.declared.Answer.TheVariants.{NotDue}
+use Rattle.decks.specs.declared.Refusal.TheVariants.{NotDue}
 use Rattle.decks.specs.Answers.{Outcome, Got, refuse}
 use Rattle.decks.specs.Readings.{Reading, Whole, Wrong, Deep}
 use Rattle.cards.specs.Grammar.{Counted, Number, NoNumber, digit_value, read_number, read_expr}

@@ -2,7 +2,7 @@
 use Rattle.std.specs.Prelude.{Bool, true, false, not, ◌&&◌, ◌||◌, List, [], ◌∷◌, ◌++◌, ℕ, suc, ◌+◌, ◌-◌, ltb, leb, eqb, length, take, drop, get_or, replicate}
 use Prim.Native.Char.{code as character}
 use Rattle.lists.specs.Lists.{ended, unended}
-use Rattle.decks.specs.declared.Answer.TheVariants.{BadByte, TooWide, BadStart, BadNumber, NoneOpen, TooManyCards}
+use Rattle.decks.specs.declared.Refusal.TheVariants.{BadByte, TooWide, BadStart, BadNumber, NoneOpen, TooManyCards}
 use Rattle.decks.specs.Answers.{Outcome, Got, Refused, refuse}
 use Rattle.decks.specs.Readings.{walk}
 

@@ -6,7 +6,7 @@ use Rattle.lists.specs.Texts.{bytes}
 use Rattle.sets.specs.Sets.{has, inside}
 use Rattle.logic.specs.Expressions.{Expr, Const, nodes, written, temporal}
 use Rattle.logic.specs.Decks.{Equation, Deck, base, total_nodes}
-use Rattle.decks.specs.declared.Answer.TheVariants.{TooLong, NotDue, Outside, Temporal, TooDeep, ManyInitials, ManyEquations, ManyNodes}
+use Rattle.decks.specs.declared.Refusal.TheVariants.{TooLong, NotDue, Outside, Temporal, TooDeep, ManyInitials, ManyEquations, ManyNodes}
 use Rattle.decks.specs.Answers.{Outcome, Got, Refused, refuse, afterwards}
 use Rattle.decks.specs.Readings.{Whole, Wrong, Deep, walk, complete}
 use Rattle.cards.specs.Card.{cards_of, in_form}

@@ -1,128 +1,82 @@
 -- Laws of one statement of the text, read.
-use mathlib.Core.Path.{◌≡◌, refl, sym, ap, ◌∙◌, subst}
+use mathlib.Core.Path.{◌≡◌, refl, sym, ap, ap₂, ◌∙◌, subst}
 use mathlib.Core.Bool.{Bool, false, not}
-use mathlib.Core.List.{List, [], ◌∷◌, ◌++◌, append-nil}
-use Prim.Native.Nat.{ℕ, ◌+◌, ◌-◌, ◌<◌, ◌≤◌}
-use native.Mathlib.Nat.{sub-zero}
+use mathlib.Core.List.{List, [], ◌++◌, append-nil}
+use Prim.Native.Nat.{ℕ, ◌-◌}
 use native.Mathlib.Omega.{arith}
-use lib.ListN.{length, take, drop, get_or, replicate, length-append}
-use lib.Seq.{take_all}
-use Rattle.lists.specs.Lists.{padded}
+use lib.ListN.{length, take, drop, get_or, replicate}
+use Rattle.std.specs.Prelude.{Result, Ok, Err}
 use Rattle.lists.proofs.Laws.{take-padded, keep_append, keep_none, each_replicate}
+use Rattle.decks.specs.declared.Refusal.{Refusal}
+use Rattle.decks.specs.declared.Deck.{Deck}
 use Rattle.decks.specs.Answers.{Outcome}
 use Rattle.cards.specs.Card.{blank, is_blank, field_start, field_end, cards_of}
 use Rattle.cards.specs.Statement.{Statement, field_of, inked}
 use Rattle.cards.specs.Read.{Sofar, due_statement}
-use Rattle.grammar.specs.Ahead.{ahead}
 use Rattle.firstpass.proofs.Laws.{field-filled}
+use Rattle.firstpass.specs.declared.Cards.{Cards}
 use Rattle.statements.specs.declared.Stmt.{Stmt}
-use Rattle.statements.specs.declared.Place.{Place}
-use Rattle.statements.specs.declared.Taken.{Taken}
+use Rattle.statements.specs.declared.Opener.{Opener}
 use Rattle.statements.specs.Hold.{stmt_of, continued, Placed, Takes}
-use Rattle.statements.proofs.Laws.{found_first, field-short, alone, place_on, behind-formed, one_taken, stands_alone}
+use Rattle.statements.proofs.Laws.{alone, stands_alone, behind-formed}
 use Rattle.cardlines.specs.declared.Held.{Held}
-use Rattle.cardlines.specs.declared.StatementRead.{StatementRead}
-use Rattle.cardlines.specs.Held.{Small, Lengths, Holds, Came}
-use Rattle.cardsteps.specs.Stepped.{Rows, following, Stepped}
+use Rattle.cardlines.specs.Held.{Small, Holds, Came}
+use Rattle.cardsteps.specs.Stepped.{Onward, Stopped}
 
--- Its characters up to its end, blanks left out.
-chars_inked : (field : List ℕ) → ahead (padded 1320 field) 0 (length field) ≡ inked field
-unfolding ahead
-chars_inked field = ap (λ (k : ℕ). inked (take k (padded 1320 field))) (sub-zero (length field)) ∙ ap inked (take-padded 1320 field)
+-- ---- the characters of a statement, blanks left out
 
 blanks_inked : (k : ℕ) → inked (replicate k blank) ≡ []
 blanks_inked k = keep_none (λ (c : ℕ). not (is_blank c)) (replicate k blank) (each_replicate (λ (c : ℕ). not (is_blank c) ≡ false) k blank refl)
 
 -- Those of a field as it stands on its card: the blanks that fill it up mean nothing.
-field-inked : (field card : List ℕ) → field ≡ drop (field_start - 1) (take field_end card) → ahead field 0 (length field) ≡ inked (field_of card)
-unfolding ahead
+field-inked : (field card : List ℕ) → field ≡ drop (field_start - 1) (take field_end card) → inked field ≡ inked (field_of card)
 field-inked field card e =
     let k : ℕ = 66 - length field in
     let filled : field ++ replicate k blank ≡ field_of card = ap (λ (f : List ℕ). f ++ replicate (66 - length f) blank) e ∙ field-filled card in
-    ap inked (take_all (length field - 0) field (omega arith))
-    ∙ sym (append-nil (inked field))
+    sym (append-nil (inked field))
     ∙ ap (λ (x : List ℕ). inked field ++ x) (sym (blanks_inked k))
     ∙ sym (keep_append (λ (c : ℕ). not (is_blank c)) field (replicate k blank))
     ∙ ap inked filled
 
-used-there : (s : Statement) (stmt : Stmt) → stmt ≡ stmt_of s → stmt.used ≤ length stmt.chars
-used-there s stmt e = rw e (omega (arith, length-append s.field (replicate (1320 - length s.field) 0)))
+characters_are : (s : Statement) (stmt : Stmt) (chars : List ℕ) → stmt ≡ stmt_of s → chars ≡ take stmt.used stmt.chars → chars ≡ s.field
+characters_are s stmt chars e c = c ∙ ap (λ (x : Stmt). take x.used x.chars) e ∙ take-padded 1320 s.field
 
--- What a statement in hand comes to, as the reader of one statement judges it.
-judged : (s : Statement) (stmt : Stmt) (card : ℕ) (so : Sofar) → stmt ≡ stmt_of s → card ≡ get_or stmt.cards 0 0 → due_statement so.due card (ahead stmt.chars 0 stmt.used) so.typed ≡ due_statement so.due s.card (inked s.field) so.typed
-judged s stmt card so e c =
-    ap (λ (m : ℕ). due_statement so.due m (ahead stmt.chars 0 stmt.used) so.typed) (c ∙ ap (λ (x : Stmt). get_or x.cards 0 0) e)
-    ∙ ap (λ (cs : List ℕ). due_statement so.due s.card cs so.typed) (ap (λ (x : Stmt). ahead x.chars 0 x.used) e ∙ chars_inked s.field)
+-- ---- what the reader of one statement says of it
 
--- What the reader of one statement asks, of so many characters.
-module _ (inits scratch lefts ends nodes property : List ℕ) (held : Held) (chars : List ℕ) (end : ℕ) where
-  abbrev Asked : Type 0
-  Asked = (end ≤ length chars) × (end ≤ length scratch) × (length scratch ≡ 1320) × Small held × (length inits ≡ 64) × Lengths lefts ends nodes × (length property ≡ 128)
-
-  asked : Rows inits scratch lefts ends nodes property → Small held → end ≤ length chars → end ≤ 1320 → Asked
-  asked r h u m = (u, omega (arith, r.scratch_long), r.scratch_long, h, r.inits-long, r.equations-long, r.property-long)
-
--- What it promises of the statement of card n, with these characters.
-module _ (inits lefts ends nodes property : List ℕ) (held : Held) (read : StatementRead) (inits' lefts' ends' nodes' property' : List ℕ) where
+module _ (held : Held) (deck deck' : Deck) (r : Result Held Refusal) where
+  -- What it promises of the statement of card n, with these characters.
   abbrev Reads : ℕ → List ℕ → Type 0
-  Reads n cs = (s : Sofar) → Holds s held inits lefts ends nodes property → Came (due_statement s.due n cs s.typed) read inits' lefts' ends' nodes' property'
+  Reads n cs = (s : Sofar) → Holds s held deck → Came (due_statement s.due n (inked cs) s.typed) r deck'
 
-module _ (text : List ℕ) (p : Place) (h : p.at < length text) (at : Placed text p) where
-  abbrev card : List ℕ
-  card = take (p.end - p.at) (drop p.at text)
+  reads_same : (n m : ℕ) (cs ds : List ℕ) → n ≡ m → inked cs ≡ inked ds → Reads n cs → Reads m ds
+  reads_same n m cs ds e f g = λ s h. subst (λ (o : Outcome Sofar). Came o r deck') (ap₂ (λ (k : ℕ) (x : List ℕ). due_statement s.due k x s.typed) e f) (g s h)
 
-  pub rises : p.at ≤ p.end
-  rises = omega (arith, at.ends h)
+-- On one card.
+module _ (o : Opener) (p : Placed o) (b : Bool) (c : b ≡ continued (cards_of o.behind.text.now)) (n : b ≡ false) (held : Held) (deck deck' : Deck) (field : List ℕ) (e : field ≡ drop (field_start - 1) (take field_end o.card.now)) where
+  pub alone_onward : (next : Held) → Small next deck' → Reads held deck deck' (Ok next) o.n field → Onward o held deck next o.behind deck'
+  alone_onward next m r =
+      record {
+        its = alone o.n o.card.now;
+        first = stands_alone o p (sym n ∙ c);
+        came = reads_same held deck deck' (Ok next) o.n o.n field (field_of o.card.now) refl (field-inked field o.card.now e) r;
+        onward = omega arith;
+        formed = behind-formed o p;
+        small = m;
+      }
 
-  pub ends-within : p.end ≤ length text
-  ends-within = at.within h
+  pub alone_stopped : (a : Refusal) → Reads held deck deck' (Err a) o.n field → Stopped o held deck a
+  alone_stopped a r =
+      record { its = alone o.n o.card.now; further = _; first = stands_alone o p (sym n ∙ c); came = reads_same held deck deck' (Err a) o.n o.n field (field_of o.card.now) refl (field-inked field o.card.now e) r }
 
-  pub next_near : p.end + 1 ≤ length text + 1
-  next_near = omega (arith, ends-within)
-
-  -- ---- on one card
-
-  module _ (field : List ℕ) (e : field ≡ drop (field_start - 1) (take field_end card)) where
-    pub may_read_field : (inits scratch lefts ends nodes property : List ℕ) (held : Held) → Rows inits scratch lefts ends nodes property → Small held → Asked inits scratch lefts ends nodes property held field (length field)
-    may_read_field inits scratch lefts ends nodes property held r s = asked inits scratch lefts ends nodes property held field (length field) r s (omega arith) (omega (arith, field-short field card e))
-
-    pub read_alone : (inits lefts ends nodes property : List ℕ) (held : Held) (read : StatementRead) (inits' lefts' ends' nodes' property' : List ℕ) (b : Bool)
-        → b ≡ continued (cards_of (drop (p.end + 1) text)) → b ≡ false → Small read.held → Reads inits lefts ends nodes property held read inits' lefts' ends' nodes' property' p.n (ahead field 0 (length field))
-        → Stepped text p held inits lefts ends nodes property (record { read = read; at = p.end + 1; n = p.n + 1 }) inits' lefts' ends' nodes' property'
-    read_alone inits lefts ends nodes property held read inits' lefts' ends' nodes' property' b c f m r =
-        record {
-          its = alone p.n card;
-          first = stands_alone text p at h (sym f ∙ c);
-          came = λ s y. subst (λ (cs : List ℕ). Came (due_statement s.due p.n cs s.typed) read inits' lefts' ends' nodes' property') (field-inked field card e) (r s y);
-          onward = place_on text p at h;
-          near = omega (arith, place_on text p at h, at.near);
-          formed = behind-formed text p at h;
-          small = m;
-        }
-
-  -- ---- with the cards that continue it
-
-  module _ (t : Taken) (k : Takes text p.at p.n t) where
-    -- It is the first of those that follow.
-    in_hand_lem : (s : Statement) × (t.stmt ≡ stmt_of s) × (following text p.at p.n ≡ s ∷ following text t.at t.n)
-    in_hand_lem = found_first (following text p.at p.n) (following text t.at t.n) t.stmt t.found k.first (one_taken text p at h t k)
-
-    pub may_read_all : (inits scratch lefts ends nodes property : List ℕ) (held : Held) → Rows inits scratch lefts ends nodes property → Small held → length t.stmt.chars ≡ 1320 → Asked inits scratch lefts ends nodes property held t.stmt.chars t.stmt.used
-    may_read_all inits scratch lefts ends nodes property held r s l =
-        let u : t.stmt.used ≤ length t.stmt.chars = used-there in_hand_lem.0 t.stmt in_hand_lem.1 in
-        asked inits scratch lefts ends nodes property held t.stmt.chars t.stmt.used r s u (omega arith)
-
-    pub read_continued : (inits lefts ends nodes property : List ℕ) (held : Held) (read : StatementRead) (inits' lefts' ends' nodes' property' : List ℕ) (n : ℕ)
-        → n ≡ get_or t.stmt.cards 0 0 → Small read.held → Reads inits lefts ends nodes property held read inits' lefts' ends' nodes' property' n (ahead t.stmt.chars 0 t.stmt.used)
-        → Stepped text p held inits lefts ends nodes property (record { read = read; at = t.at; n = t.n }) inits' lefts' ends' nodes' property'
-    read_continued inits lefts ends nodes property held read inits' lefts' ends' nodes' property' n c m r =
-        let its : Statement = in_hand_lem.0 in
-        record {
-          its = its;
-          first = in_hand_lem.2;
-          came = λ s y. subst (λ (o : Outcome Sofar). Came o read inits' lefts' ends' nodes' property') (judged its t.stmt n s in_hand_lem.1 c) (r s y);
-          onward = k.onward (one_taken text p at h t k);
-          near = k.near;
-          formed = k.formed;
-          small = m;
-        }
+-- With the cards that continue it.
+pub continued_onward : (o : Opener) (stmt : Stmt) (left : Cards) → Takes o stmt left → (held : Held) (deck deck' : Deck) (chars : List ℕ) → chars ≡ take stmt.used stmt.chars
+    → (next : Held) → Small next deck' → Reads held deck deck' (Ok next) (get_or stmt.cards 0 0) chars → Onward o held deck next left deck'
+continued_onward o stmt left t held deck deck' chars e next m r =
+    record {
+      its = t.its;
+      first = t.first;
+      came = reads_same held deck deck' (Ok next) (get_or stmt.cards 0 0) t.its.card chars t.its.field (ap (λ (x : Stmt). get_or x.cards 0 0) t.stmt_is) (ap inked (characters_are t.its stmt chars t.stmt_is e)) r;
+      onward = t.onward;
+      formed = t.formed;
+      small = m;
+    }

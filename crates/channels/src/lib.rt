@@ -2,29 +2,21 @@
 // promised here; where a text cannot be read or a reply cannot be written, a message on standard error says what to do.
 #![tactic(auto)]
 
-ghost use Rattle.std.specs.Prelude.{◌≤◌, ◌≡◌, length, IfOk};
-ghost use Rattle.io.specs.Counts.{IsPrefixLen};
+ghost use Rattle.std.specs.Prelude.{◌≤◌, ◌≡◌, length};
 
 use std::env::FillError;
 use std::fmt::InlineText;
 use std::fs::File;
-use std::io::{Error, Read};
+use std::io::{Error, Read, Result};
 use std::rt::{Env, Files};
 
 // One byte more than a text may have: so many tell that it is too long.
 const ENOUGH: usize = decks::TEXT + 1;
 
-// The system's numbers of two errors: a name that is too long, and bytes that are no text.
+// The system's numbers of two errors, as std takes them: a name that is too long, and bytes that are no text.
 const TOO_LONG: i32 = 36;
 
 const NO_TEXT: i32 = 84;
-
-// How many bytes were read, or that they could not all be read.
-#[derive(Clone, Copy)]
-pub struct Input {
-    pub failed: bool,
-    pub length: usize,
-}
 
 // ---- texts
 
@@ -35,26 +27,17 @@ pub fn room() -> [u8; ENOUGH]
     [0; ENOUGH]
 }
 
-// Reads once.
-fn read_some<R: Read>(reader: &mut R, text: &mut [u8]) -> std::io::Result<usize>
-    ensures { IfOk result (λ n. n ≤ length text.new) }
-{
-    reader.read(text)
-}
-
-// Reads until the text is full, the input ends or a read fails.
-fn read_input<R: Read>(reader: &mut R, text: &mut [u8]) -> std::io::Result<usize>
-    ensures { IfOk result (λ n. IsPrefixLen n text.new) }
-{
+// Reads until the text is full, the input ends or a read fails. What a read takes sets the step, which no range knows.
+fn read_input<'a, R: Read>(reader: &mut R, text: &'a mut [u8]) -> Result<&'a [u8]> {
     let mut at = 0;
     while at < text.len() {
-        let some = read_some(reader, &mut text[at..])?;
+        let some = reader.read(&mut text[at..])?;
         if some == 0 {
-            return Ok(at);
+            break;
         }
         at += some;
     }
-    Ok(at)
+    Ok(&text[..at])
 }
 
 // The system's words for an error, without the number that std puts behind them.
@@ -75,57 +58,22 @@ fn say_unread<E: Eprint>(rt: &E, name: &str, error: Error) {
     );
 }
 
-// No text.
-fn unread(text: &[u8]) -> Input
-    ensures { IsPrefixLen result.length text.now }
-{
-    let n = io::count(0, text);
-    Input {
-        failed: true,
-        length: n,
-    }
+// What was read, or nothing where it could not all be read; then a message says why.
+fn told<'a, E: Eprint>(rt: &E, name: &str, got: Result<&'a [u8]>) -> Option<&'a [u8]> {
+    got.map_err(|error| say_unread(rt, name, error)).ok()
 }
 
-// What was read, or that it could not all be read; then a message says why.
-fn told<E: Eprint>(rt: &E, name: &str, got: std::io::Result<usize>, text: &[u8]) -> Input
-    requires { IfOk got (λ n. IsPrefixLen n text.now) }
-    ensures { IsPrefixLen result.length text.now }
-{
-    match got {
-        Ok(n) => Input {
-            failed: false,
-            length: n,
-        },
-        Err(error) => {
-            say_unread(rt, name, error);
-            unread(text)
-        }
-    }
-}
-
-// The text on standard input.
-pub fn read_standard<R: std::io::Input + Eprint>(rt: &R, text: &mut [u8]) -> Input
-    ensures { IsPrefixLen result.length text.new }
-{
-    let mut reader = rt.reader();
-    let got = read_input(&mut reader, text);
-    told(rt, "standard input", got, text)
+// The text on standard input, or nothing where it could not all be read.
+pub fn read_standard<'a, R: std::io::Input + Eprint>(
+    rt: &R,
+    text: &'a mut [u8],
+) -> Option<&'a [u8]> {
+    told(rt, "standard input", read_input(&mut rt.reader(), text))
 }
 
 // The text in a file.
-fn read_file<R: Files + Eprint>(rt: &R, name: &str, text: &mut [u8]) -> Input
-    ensures { IsPrefixLen result.length text.new }
-{
-    match File::open(rt, name) {
-        Ok(mut file) => {
-            let got = read_input(&mut file, text);
-            told(rt, name, got, text)
-        }
-        Err(error) => {
-            say_unread(rt, name, error);
-            unread(text)
-        }
-    }
+fn read_file<'a, R: Files>(rt: &R, name: &str, text: &'a mut [u8]) -> Result<&'a [u8]> {
+    read_input(&mut File::open(rt, name)?, text)
 }
 
 // ---- words
@@ -133,88 +81,52 @@ fn read_file<R: Files + Eprint>(rt: &R, name: &str, text: &mut [u8]) -> Input
 // Whether the command line has a word i.
 fn has_word<R: Env>(rt: &R, i: usize) -> bool {
     let mut buffer = [0u8; 16];
-    match rt.arg(i, &mut buffer) {
-        Ok(_) | Err(FillError::TooLong) => true,
-        Err(FillError::NotPresent) => false,
-    }
+    !matches!(rt.arg(i, &mut buffer), Err(FillError::NotPresent))
 }
 
 // How many words the command line has, the program's name among them, and `most` where it has more.
 pub fn words<R: Env>(rt: &R, most: usize) -> usize
     ensures { result ≤ most }
 {
-    let mut i = 0;
-    while i < most {
-        if !has_word(rt, i) {
-            return i;
-        }
-        i += 1;
-    }
-    most
-}
-
-// Whether two words are the same.
-fn same(a: &[u8], b: &[u8]) -> bool {
-    if a.len() != b.len() {
-        return false;
-    }
-    let mut i = 0;
-    while i < a.len() {
-        if a[i] != b[i] {
-            return false;
-        }
-        i += 1;
-    }
-    true
+    (0..most).find(|i| !has_word(rt, *i)).unwrap_or(most)
 }
 
 // Whether word i of the command line is this one.
-pub fn is_word<R: Env>(rt: &R, i: usize, word: &[u8]) -> bool {
+pub fn is_word<R: Env>(rt: &R, i: usize, word: &str) -> bool {
     let mut buffer = [0u8; 16];
     match rt.arg(i, &mut buffer) {
-        Ok(n) => same(&buffer[..n], word),
+        Ok(n) => &buffer[..n] == word.as_bytes(),
         Err(_) => false,
     }
 }
 
-// The text that word i of the command line names.
-pub fn read_text<R: Files + std::io::Input + Env + Eprint>(
+// The text that word i of the command line names, or nothing where it could not all be read.
+pub fn read_text<'a, R: Files + std::io::Input + Env + Eprint>(
     rt: &R,
     i: usize,
-    text: &mut [u8],
-) -> Input
-    ensures { IsPrefixLen result.length text.new }
-{
-    if is_word(rt, i, b"-") {
+    text: &'a mut [u8],
+) -> Option<&'a [u8]> {
+    if is_word(rt, i, "-") {
         return read_standard(rt, text);
     }
     let mut buffer = io::buffer();
     let Ok(n) = rt.arg(i, &mut buffer) else {
-        say_unread(
-            rt,
-            "a file with so long a name",
-            Error::from_raw_os_error(TOO_LONG),
-        );
-        return unread(text);
+        let error = Error::from_raw_os_error(TOO_LONG);
+        say_unread(rt, "a file with so long a name", error);
+        return None;
     };
     let Ok(name) = str::from_utf8(&buffer[..n]) else {
-        say_unread(
-            rt,
-            "a file whose name is not UTF-8",
-            Error::from_raw_os_error(NO_TEXT),
-        );
-        return unread(text);
+        let error = Error::from_raw_os_error(NO_TEXT);
+        say_unread(rt, "a file whose name is not UTF-8", error);
+        return None;
     };
-    read_file(rt, name, text)
+    told(rt, name, read_file(rt, name, text))
 }
 
 // The set that word i of the command line gives.
-pub fn read_set<R: Env>(rt: &R, i: usize) -> lines::Number {
+pub fn read_set<R: Env>(rt: &R, i: usize) -> Option<u64> {
     let mut buffer = [0u8; 32];
-    let n = match rt.arg(i, &mut buffer) {
-        Ok(n) => n,
-        Err(_) => 0,
-    };
+    let n = rt.arg(i, &mut buffer).ok()?;
     lines::number_at(&buffer[..n], 0, 8)
 }
 
@@ -229,11 +141,8 @@ pub fn say_unwritten<R: Eprint>(rt: &R) {
 
 // Writes the first n bytes.
 pub fn write_reply<R: Print + Eprint>(rt: &R, out: &[u8], n: usize) {
-    if n <= out.len() {
-        let is_written = rt.write_all(&out[..n]).is_ok();
-        if is_written {
-            return;
-        }
+    if n <= out.len() && rt.write_all(&out[..n]).is_ok() {
+        return;
     }
     say_unwritten(rt);
 }

@@ -1,141 +1,127 @@
 -- Laws of checking: the rows that a claim is checked in, and one law for each way that a check returns.
 use mathlib.Core.Path.{◌≡◌, refl, sym, ap, ◌∙◌, subst}
 use mathlib.Core.List.{List}
-use Prim.Native.Nat.{ℕ, ◌+◌, ◌<◌, ◌≤◌}
+use Prim.Native.Nat.{ℕ, ◌+◌, ◌*◌, ◌<◌, ◌≤◌}
 use native.Mathlib.Omega.{arith}
 use lib.ListN.{length, take, replicate, length-replicate}
 use lib.Seq.{length-take-le}
+use Rattle.std.specs.Prelude.{Result, Ok, Err}
 use Rattle.logic.specs.Decks.{Deck, Accepted, base}
 use Rattle.logic.specs.Meaning.{Claim, Sized}
 use Rattle.logic.specs.Verdicts.{verdict}
-use Rattle.decks.specs.declared.Answer.{Answer}
-use Rattle.decks.specs.declared.Reply.{Reply}
-use Rattle.decks.specs.declared.DeckRead.{DeckRead}
-use Rattle.decks.specs.declared.ClaimRead.{ClaimRead}
-use Rattle.decks.specs.Answers.{Outcome, Got, Refused, reply_of}
-use Rattle.decks.specs.Lent.{claim_read, DeckCame, ClaimCame}
+use Rattle.decks.specs.declared.Refusal.{Refusal}
+use Rattle.decks.specs.declared.Deck.{Deck as Stored}
+use Rattle.decks.specs.Answers.{Outcome, Got, Refused}
+use Rattle.decks.specs.Stored.{stored}
+use Rattle.decks.specs.Lent.{ReadInto}
+use Rattle.decks.proofs.Outcomes.{err_eq}
 use Rattle.frames.specs.Read.{read_claim}
 use Rattle.frames.proofs.ClaimTheorems.{claim_read_sized}
 use Rattle.truths.specs.Worked.{claim_of}
 use Rattle.steps.specs.Steps.{Zeros}
 use Rattle.claims.specs.Checked.{verdict_answer, claim_checked, deck_checked}
 use Rattle.claims.proofs.Verdict.{claim_lent, zeros_all, zeros_part}
+use Rattle.claimreading.specs.declared.ClaimRead.{ClaimRead}
+use Rattle.claimreading.specs.Held.{RoomFor, claim_read, ClaimCame}
 use Rattle.replies.specs.Readable.{Readable}
-use Rattle.replies.proofs.Laws.{number_fine, number_other, refusal_is}
-use Rattle.checking.specs.Idle.{Idle}
-use Rattle.checking.proofs.Numbered.{Numbered, fault}
-use Rattle.checking.proofs.NumberedClaims.{claim_numbered}
+
+ok_err : {A E P : Type 0} {x : A} {a : E} → ◌≡◌ {A = Result A E} (Ok x) (Err a) → P
+ok_err e = let z : ◌≡◌ {A = ℕ} 0 1 = cc in absurd (omega arith)
+
+ok_eq : {A E : Type 0} {x y : A} → ◌≡◌ {A = Result A E} (Ok x) (Ok y) → x ≡ y
+ok_eq e = cc
 
 -- ---- claims in lent rows
 
--- A claim that was read.
-abbrev Claimed : ClaimRead → List ℕ → Type 0
-Claimed m states = (M : Claim) × Sized base M × ClaimCame (Got M) m states
+-- Rows of n places are enough for a text shorter than 19 * n, and 1,024 for every text.
+pub short_room : (n bytes : ℕ) → bytes < 19 * n → RoomFor bytes (replicate n 0)
+short_room n bytes h i l k = omega (arith, length-replicate {A = ℕ} n 0)
 
--- The claim of the states lent.
-its_claim : (M : Claim) (m : ClaimRead) (states : List ℕ) → Sized base M → ClaimCame (Got M) m states → claim_of m.p (take (m.p + m.c) states) ≡ M
-its_claim M m states ok came =
-    ap (λ (x : ClaimRead). claim_of x.p (take (x.p + x.c) states)) came.read_is
-    ∙ ap (λ (l : List ℕ). claim_of M.p (take (M.p + M.c) l)) came.row_holds.0
-    ∙ claim_lent (length states) M ok
+pub long_room : (bytes : ℕ) → RoomFor bytes (replicate base.states 0)
+long_room bytes i l k = omega (arith, length-replicate {A = ℕ} base.states 0)
 
 -- The first of a row of zeros are zeros.
 zeros_first : (k n : ℕ) (row : List ℕ) → row ≡ replicate n 0 → Zeros (take k row)
 zeros_first k n row e = zeros_part k row (subst Zeros (sym e) (zeros_all n))
 
-module _ (m : ClaimRead) (states : List ℕ) (r : Claimed m states) where
-  pub count_most : m.p + m.c ≤ base.states
-  count_most = let (M, ok, e) = r in omega (arith, ok.most, ap (λ (x : ClaimRead). x.p) e.read_is, ap (λ (x : ClaimRead). x.c) e.read_is)
+module _ (vars : ℕ) (claim : List ℕ) (r : Result ClaimRead Refusal) (states : List ℕ) (came : ClaimCame (read_claim vars claim) r states) where
+  -- A claim that was read, with its states in the row.
+  abbrev Claimed : ClaimRead → Type 0
+  Claimed m = (M : Claim) × (read_claim vars claim ≡ Got M) × Sized base M × (m ≡ record { p = M.p; c = M.c }) × (claim_of m.p (take (m.p + m.c) states) ≡ M) × (m.p + m.c ≤ length states)
 
-  pub states-within : m.p + m.c ≤ length states
-  states-within = let (M, ok, e) = r in omega (arith, ok.all, e.row_holds.1, ap (λ (x : ClaimRead). x.p) e.read_is, ap (λ (x : ClaimRead). x.c) e.read_is)
+  pub claimed : (m : ClaimRead) → r ≡ Ok m → Claimed m
+  claimed m e = go (read_claim vars claim) refl came
+    where
+      go : (o : Outcome Claim) → read_claim vars claim ≡ o → ClaimCame o r states → Claimed m
+      go (Refused a) q h = ok_err (sym e ∙ h.read_is)
+      go (Got M) q h =
+          let sized = (claim_read_sized vars claim M q).0 in
+          let same : m ≡ record { p = M.p; c = M.c } = ok_eq (sym e ∙ h.read_is) in (
+            M,
+            q,
+            sized,
+            same,
+            ap (λ (x : ClaimRead). claim_of x.p (take (x.p + x.c) states)) same ∙ ap (λ (l : List ℕ). claim_of M.p (take (M.p + M.c) l)) h.row_holds.0 ∙ claim_lent (length states) M sized,
+            omega (arith, sized.all, h.row_holds.1, ap (λ (x : ClaimRead). x.p) same, ap (λ (x : ClaimRead). x.c) same),
+          )
 
-  pub first-long : (row : List ℕ) → m.p + m.c ≤ length row → m.p + m.c ≡ length (take (m.p + m.c) row)
-  first-long row h = sym (length-take-le (m.p + m.c) row h)
+  pub claim_refused : (a : Refusal) → r ≡ Err a → (D : Deck) → vars ≡ D.vars → Err a ≡ claim_checked D (read_claim D.vars claim)
+  claim_refused a e D v = go (read_claim vars claim) came ∙ ap (λ (k : ℕ). claim_checked D (read_claim k claim)) v
+    where
+      go : (o : Outcome Claim) → ClaimCame o r states → Err a ≡ claim_checked D o
+      go (Got M) h = ok_err (sym h.read_is ∙ e)
+      go (Refused b) h = ap Err (err_eq (sym e ∙ h.read_is))
 
-  -- The rows to work in, as they were lent.
-  module _ (states₀ words marks : List ℕ) (idle : Idle states₀ words marks) (long : length states ≡ length states₀) where
-    row_long : (row : List ℕ) → row ≡ replicate (length states₀) 0 → length row ≡ length states
-    row_long row e = ap (λ (l : List ℕ). length l) e ∙ length-replicate {A = ℕ} (length states₀) 0 ∙ sym long
+  module _ (m : ClaimRead) (e : r ≡ Ok m) where
+    pub count_most : m.p + m.c ≤ base.states
+    count_most = let (M, q, sized, same, its, fit) = claimed m e in omega (arith, sized.most, ap (λ (x : ClaimRead). x.p) same, ap (λ (x : ClaimRead). x.c) same)
 
-    pub words_within : m.p + m.c ≤ length words
-    words_within = omega (arith, states-within, row_long words idle.words_zero)
+    pub within : (n : ℕ) → length states ≡ n → m.p + m.c ≤ n
+    within n l = let (M, q, sized, same, its, w) = claimed m e in omega (arith, w, l)
 
-    pub marks_within : m.p + m.c ≤ length marks
-    marks_within = omega (arith, states-within, row_long marks idle.marks_zero)
-
-    pub verdict_asked : (m.p < length (take (m.p + m.c) states))
+    -- The rows to work in, as they were lent.
+    pub verdict_asked : (n : ℕ) (words marks : List ℕ) → length states ≡ n → words ≡ replicate n 0 → marks ≡ replicate n 0
+        → (m.p < length (take (m.p + m.c) states))
         × Zeros (take (m.p + m.c) words)
         × Zeros (take (m.p + m.c) marks)
         × (length (take (m.p + m.c) words) ≡ length (take (m.p + m.c) states))
         × (length (take (m.p + m.c) marks) ≡ length (take (m.p + m.c) states))
-    verdict_asked =
-        let (M, ok, e) = r in
-        let all = first-long states states-within in (
-          omega (arith, all, ok.some, ap (λ (x : ClaimRead). x.c) e.read_is),
-          zeros_first (m.p + m.c) (length states₀) words idle.words_zero,
-          zeros_first (m.p + m.c) (length states₀) marks idle.marks_zero,
-          sym (first-long words words_within) ∙ all,
-          sym (first-long marks marks_within) ∙ all,
+    verdict_asked n words marks l w k =
+        let (M, q, sized, same, its, fit) = claimed m e in
+        let first : (row : List ℕ) → length row ≡ n → length (take (m.p + m.c) row) ≡ m.p + m.c = λ row h. length-take-le (m.p + m.c) row (omega (arith, h, l)) in
+        let all = first states l in
+        let zeros : (row : List ℕ) → row ≡ replicate n 0 → length row ≡ n = λ row h. ap (λ (x : List ℕ). length x) h ∙ length-replicate {A = ℕ} n 0 in (
+          omega (arith, all, sized.some, ap (λ (x : ClaimRead). x.c) same),
+          zeros_first (m.p + m.c) n words w,
+          zeros_first (m.p + m.c) n marks k,
+          first words (zeros words w) ∙ sym all,
+          first marks (zeros marks k) ∙ sym all,
         )
+
+    pub verdict-done : (v : Result (Unit {0}) Refusal) (D : Deck) → vars ≡ D.vars → v ≡ verdict_answer (verdict D (claim_of m.p (take (m.p + m.c) states))) → v ≡ claim_checked D (read_claim D.vars claim)
+    verdict-done v D u h =
+        let (M, q, sized, same, its, fit) = claimed m e in
+        h ∙ ap (λ (x : Claim). verdict_answer (verdict D x)) its ∙ ap (claim_checked D) (sym q) ∙ ap (λ (k : ℕ). claim_checked D (read_claim k claim)) u
 
 -- ---- the deck that was read
 
-module _ (read : DeckRead) (inits lefts ends nodes property : List ℕ) where
-  -- The deck that was read.
-  abbrev Here : Deck → Type 0
-  Here d = DeckCame (Got d) read inits lefts ends nodes property
+module _ (r : Result (Unit {0}) Refusal) (s : Stored) where
+  pub deck_there : r ≡ Ok tt → (o : Outcome Deck) × Readable o × ReadInto o r s → (D : Deck) × Accepted base D × (s ≡ stored D)
+  deck_there e (o, ok, h) = go o ok h
+    where
+      go : (o : Outcome Deck) → Readable o → ReadInto o r s → (D : Deck) × Accepted base D × (s ≡ stored D)
+      go (Got D) ok h = (D, ok, h.stands_in)
+      go (Refused a) ok h = ok_err (sym e ∙ h.said_is)
 
-  module _ (a : Reply) (is : a ≡ reply_of read.answer) where
-    pub check_refused : (claim : List ℕ) → (a.number ≡ 0 → ⊥) → (o : Outcome Deck) → Readable o → DeckCame o read inits lefts ends nodes property → a ≡ reply_of (deck_checked o claim)
-    check_refused claim n (Got d) h f = absurd (n (number_fine read inits lefts ends nodes property a is d f))
-    check_refused claim n (Refused b) h f = refusal_is read inits lefts ends nodes property a is b f
+  pub deck_refused : (a : Refusal) (claim : List ℕ) → r ≡ Err a → (o : Outcome Deck) → ReadInto o r s → Err a ≡ deck_checked o claim
+  deck_refused a claim e (Got D) h = ok_err (sym h.said_is ∙ e)
+  deck_refused a claim e (Refused b) h = sym e ∙ h.said_is
 
-    pub check_done : (claim : List ℕ) (r : Reply)
-        → a.number ≡ 0
-        → ((D : Deck) → Accepted base D → Here D → r ≡ reply_of (claim_checked D (read_claim D.vars claim)))
-        → (o : Outcome Deck)
-        → Readable o
-        → DeckCame o read inits lefts ends nodes property
-        → r ≡ reply_of (deck_checked o claim)
-    check_done claim r z g (Got d) h f = g d h f
-    check_done claim r z g (Refused b) h f = absurd (number_other read inits lefts ends nodes property a is b h f z)
-
-  -- ---- the claim, on the deck that was read
-
-  module _ (claim : List ℕ) (m : ClaimRead) (states : List ℕ) (came : ClaimCame (read_claim read.vars claim) m states) (b : Reply) (b-is : b ≡ reply_of m.answer) where
-    claim_of_lem : (d : Deck) → Here d → ClaimCame (read_claim d.vars claim) m states
-    claim_of_lem d f = subst (λ (x : DeckRead). ClaimCame (read_claim x.vars claim) m states) f.read_is came
-
-    number_of : (o : Outcome Claim) → ClaimCame o m states → b.number ≡ (reply_of (claim_read o).answer).number
-    number_of o e = ap (λ (x : Reply). x.number) b-is ∙ ap (λ (x : ClaimRead). (reply_of x.answer).number) e.read_is
-
-    pub claim_refused : (b.number ≡ 0 → ⊥) → (d : Deck) → Accepted base d → Here d → b ≡ reply_of (claim_checked d (read_claim d.vars claim))
-    claim_refused n d h f = go (read_claim d.vars claim) (claim_of_lem d f)
-      where
-        go : (o : Outcome Claim) → ClaimCame o m states → b ≡ reply_of (claim_checked d o)
-        go (Got M) e = absurd (n (number_of (Got M) e))
-        go (Refused x) e = b-is ∙ ap (λ (y : ClaimRead). reply_of y.answer) e.read_is
-
-    -- A claim with number 0 was read.
-    claim_there : (d : Deck) → Here d → b.number ≡ 0 → (M : Claim) × (read_claim d.vars claim ≡ Got M) × Sized base M × ClaimCame (Got M) m states
-    claim_there d f z = go (read_claim d.vars claim) refl (claim_numbered d.vars claim) (claim_of_lem d f)
-      where
-        go : (o : Outcome Claim) → read_claim d.vars claim ≡ o → Numbered o → ClaimCame o m states → (M : Claim) × (read_claim d.vars claim ≡ Got M) × Sized base M × ClaimCame (Got M) m states
-        go (Got M) e h g = (M, e, (claim_read_sized d.vars claim M e).0, g)
-        go (Refused x) e h g = absurd (omega (arith, (fault x h).0, z, number_of (Refused x) g))
-
-    pub claimed : (D : Deck) × Accepted base D × Here D → b.number ≡ 0 → Claimed m states
-    claimed (d, ok, f) z = let (M, e, sized, g) = claim_there d f z in (M, sized, g)
-
-    pub verdict-done : (v : Answer) (r : Reply)
-        → b.number ≡ 0
-        → ((D : Deck) → Accepted base D → Here D → v ≡ verdict_answer (verdict D (claim_of m.p (take (m.p + m.c) states))))
-        → r ≡ reply_of v
-        → (d : Deck)
-        → Accepted base d
-        → Here d
-        → r ≡ reply_of (claim_checked d (read_claim d.vars claim))
-    verdict-done v r z g e d h f =
-        let (M, read_as, sized, row) = claim_there d f z in
-        e ∙ ap reply_of (g d h f ∙ ap (λ (x : Claim). verdict_answer (verdict d x)) (its_claim M m states sized row)) ∙ ap (λ (o : Outcome Claim). reply_of (claim_checked d o)) (sym read_as)
+  pub check_done : (claim : List ℕ) (v : Result (Unit {0}) Refusal) → r ≡ Ok tt
+      → ((D : Deck) → Accepted base D → s ≡ stored D → v ≡ claim_checked D (read_claim D.vars claim))
+      → (o : Outcome Deck)
+      → Readable o
+      → ReadInto o r s
+      → v ≡ deck_checked o claim
+  check_done claim v e g (Got D) ok h = g D ok h.stands_in
+  check_done claim v e g (Refused a) ok h = ok_err (sym e ∙ h.said_is)

@@ -8,8 +8,8 @@ use borrow.Author.Tests.{ltb-false}
 use lib.Dec.{ltb, lit≤}
 use lib.ListN.{length}
 use Rattle.logic.specs.Decks.{base}
-use Rattle.decks.specs.declared.Answer.{Answer}
-use Rattle.decks.specs.declared.Answer.TheVariants.{Fine, TooLong, BadByte, TooWide, BadStart, BadNumber, NoneOpen, TooManyCards, NotDue, Outside, Temporal, TooDeep, ManyInitials, ManyEquations, ManyNodes, NoEquation, BadFrame, NoRoom, NotInitial, NoStep, Holding}
+use Rattle.decks.specs.declared.Refusal.{Refusal}
+use Rattle.decks.specs.declared.Refusal.TheVariants.{TooLong, BadByte, TooWide, BadStart, BadNumber, NoneOpen, TooManyCards, NotDue, Outside, Temporal, TooDeep, ManyInitials, ManyEquations, ManyNodes, NoEquation, BadFrame, NoRoom, NotInitial, NoStep, Holding}
 use Rattle.decks.specs.declared.Reply.{Reply}
 use Rattle.decks.specs.Answers.{Outcome, Got, Refused, reply_of, refuse, afterwards}
 use Rattle.decks.specs.Readings.{walk}
@@ -19,8 +19,7 @@ abbrev pub farthest : ℕ
 farthest = base.text + 1
 
 -- The answers that a reader may refuse with, and what is to be known of their texts and places.
-abbrev pub Names : Answer → Type 0
-Names Fine = ⊥
+abbrev pub Names : Refusal → Type 0
 Names (TooLong t) = t ≤ 2
 Names (BadByte p) = p ≤ farthest
 Names (TooWide p) = p ≤ farthest
@@ -46,8 +45,7 @@ Names Holding = ⊥
 abbrev pub Fault : Reply → Type 0
 Fault r = (1 ≤ r.number) × (r.number ≤ 16) × (r.text ≤ 2) × (r.place ≤ farthest)
 
-pub fault : (a : Answer) → Names a → Fault (reply_of a)
-fault Fine h = absurd h
+pub fault : (a : Refusal) → Names a → Fault (reply_of a)
 fault (TooLong t) h = (lit≤ tt, lit≤ tt, h, lit≤ tt)
 fault (BadByte p) h = (lit≤ tt, lit≤ tt, lit≤ tt, h)
 fault (TooWide p) h = (lit≤ tt, lit≤ tt, lit≤ tt, h)
@@ -75,7 +73,7 @@ Numbered (Got x) = Unit
 Numbered (Refused a) = Names a
 
 module _ {A : Type 0} where
-  pub refuse-numbered : (t : Bool) (a : Answer) (r : Outcome A) → Names a → Numbered r → Numbered (refuse t a r)
+  pub refuse-numbered : (t : Bool) (a : Refusal) (r : Outcome A) → Names a → Numbered r → Numbered (refuse t a r)
   refuse-numbered true a r h k = h
   refuse-numbered false a r h k = k
 

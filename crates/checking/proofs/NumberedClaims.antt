@@ -11,7 +11,7 @@ use Rattle.lists.specs.Lists.{ended, unended, fronted}
 use Rattle.sets.specs.Sets.{inside}
 use Rattle.logic.specs.Decks.{base}
 use Rattle.logic.specs.Meaning.{Claim}
-use Rattle.decks.specs.declared.Answer.TheVariants.{Outside, BadFrame}
+use Rattle.decks.specs.declared.Refusal.TheVariants.{Outside, BadFrame}
 use Rattle.decks.specs.Answers.{Outcome, Got, Refused}
 use Rattle.decks.specs.Readings.{walk}
 use Rattle.frames.specs.Hex.{number}

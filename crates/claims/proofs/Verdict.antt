@@ -8,6 +8,7 @@ use borrow.Author.Tests.{eq-eqb, ne_eqb}
 use lib.ListN.{length, take, get_or, replicate}
 use lib.Pow.{pow_pos}
 use lib.Bits.{or_zero_l}
+use Rattle.std.specs.Prelude.{Ok, Err}
 use Rattle.lists.specs.Lists.{stands, padded}
 use Rattle.lists.proofs.Laws.{each_map, take-padded, length-padded}
 use Rattle.sets.specs.Sets.{union, inside}
@@ -19,13 +20,13 @@ use Rattle.logic.proofs.Codes.{written-narrow}
 use Rattle.logic.proofs.Verdict.{truth_lt}
 use Rattle.terms.specs.Nodes.{Stands}
 use Rattle.terms.proofs.Trees.{stands_at}
-use Rattle.decks.specs.declared.DeckRead.{DeckRead}
-use Rattle.decks.specs.declared.Answer.TheVariants.{Fine, NotInitial, NoStep, Holding}
-use Rattle.decks.specs.Answers.{Got}
-use Rattle.decks.specs.Lent.{DeckCame}
+use Rattle.decks.specs.declared.Deck.{Deck as Stored}
+use Rattle.decks.specs.declared.Refusal.TheVariants.{NotInitial, NoStep, Holding}
+use Rattle.decks.specs.Stored.{stored}
+use Rattle.decks.proofs.Stored.{stored_holds, stored_inits}
 use Rattle.evaluator.specs.Pending.{All, following}
 use Rattle.truths.specs.Worked.{claim_of, truth_word, Ready, Evaluated}
-use Rattle.steps.specs.Steps.{behind, taken_word, Fit, Given, Zeros, FirstLacking}
+use Rattle.steps.specs.Steps.{behind, taken_word, Fit, Given, Zeros, NoneLacks, FirstLacking}
 use Rattle.claims.specs.Checked.{verdict_answer}
 
 -- ---- what the lent rows hold
@@ -39,37 +40,34 @@ fit-allowed vars q h a =
       shallow = a.shallow;
     }
 
-module _ (read : DeckRead) (inits lefts ends nodes property : List ℕ) (D : Deck) (ok : Accepted base D) (came : DeckCame (Got D) read inits lefts ends nodes property) where
-  its-equations : Given D.equations lefts ends nodes read.equations
+module _ (s : Stored) (D : Deck) (ok : Accepted base D) (h : s ≡ stored D) where
+  its-equations : Given D.equations s.equations.lefts s.equations.ends s.equations.nodes s.equations.count
   its-equations =
       record {
-        held = rw came.read_is came.rows_hold.equations_are;
+        held = stored_holds D s h;
         fit = each_map (Allowed base D.vars) Fit D.equations (λ q a. fit-allowed D.vars q ok.vars_in a) ok.equations-allowed;
       }
 
-  pub equations_given : (qs : List Equation) × Given qs lefts ends nodes read.equations
+  pub equations_given : (qs : List Equation) × Given qs s.equations.lefts s.equations.ends s.equations.nodes s.equations.count
   equations_given = (D.equations, its-equations)
 
-  pub initials-within : read.initials ≤ length inits
-  initials-within = rw (came.read_is, came.rows_hold.inits_are) (omega (arith, length-padded base.initials D.inits ok.inits-most, ok.inits-most))
+  pub initials-within : s.initials ≤ base.initials
+  initials-within = rw h ok.inits-most
 
-  initials_are : take read.initials inits ≡ D.inits
-  initials_are = rw (came.read_is, came.rows_hold.inits_are) (take-padded base.initials D.inits)
-
-  property-stands : Stands property 0 D.property
+  property-stands : Stands s.property 0 D.property
   property-stands =
-      rw came.rows_hold.property_is
+      rw h
       (stands_at [] _ D.property (written-narrow base.variables D.vars D.property (omega arith) ok.vars_in ok.property_in))
 
-  vars_are : read.vars ≡ D.vars
-  vars_are = rw came.read_is refl
+  vars_are : s.vars ≡ D.vars
+  vars_are = rw h refl
 
   pub property_ready : (states : List ℕ) (p : ℕ) (words zeros : List ℕ)
       → words ≡ zeros
       → Zeros zeros
       → length zeros ≡ length states
       → p < length states
-      → Ready property 0 states p words base.levels
+      → Ready s.property 0 states p words base.levels
   property_ready states p words zeros q z l k =
       record {
         its = D.property;
@@ -84,36 +82,32 @@ module _ (read : DeckRead) (inits lefts ends nodes property : List ℕ) (D : Dec
   module _ (states : List ℕ) (p : ℕ) (k : p < length states) where
     -- ---- 20
 
-    is_initial : (b : Bool) (s : ℕ) → s ≡ get_or states 0 0 → b ≡ stands s (take read.initials inits) → b ≡ stands (state_of (claim_of p states) 0) D.inits
-    is_initial b s h q = q ∙ ap₂ stands h initials_are
+    -- Whether the first state stands among the initial ones lent.
+    abbrev Tested : Bool → List ℕ → Type 0
+    Tested b inits = (b ≡ stands (get_or states 0 0) inits) × (inits ≡ take s.initials s.inits)
 
-    pub not_initial : (b : Bool) (s : ℕ) → s ≡ get_or states 0 0 → b ≡ stands s (take read.initials inits) → not b ≡ true → NotInitial ≡ verdict_answer (verdict D (claim_of p states))
-    unfolding verdict
-    not_initial b s h q n = let f : stands (state_of (claim_of p states) 0) D.inits ≡ false = sym (is_initial b s h q) ∙ go b n in let v : verdict D (claim_of p states) ≡ NotInitialState = simp (f, verdict) in sym (ap verdict_answer v)
-      where
-        go : (t : Bool) → not t ≡ true → t ≡ false
-        go true n = sym n
-        go false n = refl
+    is_initial : (b : Bool) (inits : List ℕ) → Tested b inits → b ≡ stands (state_of (claim_of p states) 0) D.inits
+    is_initial b inits (q, e) = q ∙ ap (stands (get_or states 0 0)) (e ∙ stored_inits D s h)
 
-    initial : (b : Bool) (s : ℕ) → s ≡ get_or states 0 0 → b ≡ stands s (take read.initials inits) → not b ≡ false → verdict D (claim_of p states) ≡ steps_from D (claim_of p states) (length states) 0
+    pub not_initial : (b : Bool) (inits : List ℕ) → Tested b inits → b ≡ false → Err NotInitial ≡ verdict_answer (verdict D (claim_of p states))
     unfolding verdict
-    initial b s h q n =
-        let f : stands (state_of (claim_of p states) 0) D.inits ≡ true = sym (is_initial b s h q) ∙ go b n in
+    not_initial b inits q n = let f : stands (state_of (claim_of p states) 0) D.inits ≡ false = sym (is_initial b inits q) ∙ n in let v : verdict D (claim_of p states) ≡ NotInitialState = simp (f, verdict) in sym (ap verdict_answer v)
+
+    initial : (b : Bool) (inits : List ℕ) → Tested b inits → b ≡ true → verdict D (claim_of p states) ≡ steps_from D (claim_of p states) (length states) 0
+    unfolding verdict
+    initial b inits q n =
+        let f : stands (state_of (claim_of p states) 0) D.inits ≡ true = sym (is_initial b inits q) ∙ n in
         let l : p + (length states - p) ≡ length states = omega arith in
         let v : verdict D (claim_of p states) ≡ steps_from D (claim_of p states) (p + (length states - p)) 0 = simp (f, verdict) in
         v ∙ ap (λ (n : ℕ). steps_from D (claim_of p states) n 0) l
-      where
-        go : (t : Bool) → not t ≡ false → t ≡ true
-        go true n = refl
-        go false n = sym n
 
     -- ---- 21
 
-    module _ (zeros marks : List ℕ) (z : Zeros zeros) (long : length zeros ≡ length states) (m : (qs : List Equation) → Given qs lefts ends nodes read.equations → All (taken_word qs states p) zeros marks) where
+    module _ (zeros marks : List ℕ) (z : Zeros zeros) (long : length zeros ≡ length states) (m : (qs : List Equation) → Given qs s.equations.lefts s.equations.ends s.equations.nodes s.equations.count → All (taken_word qs states p) zeros marks) where
       its_marks : All (taken_word D.equations states p) zeros marks
       its_marks = m D.equations its-equations
 
-      step_allowed : (j : ℕ) → j < length states → allowed D (state_of (claim_of p states) j) (state_of (claim_of p states) (follower (claim_of p states) j)) ≡ inside read.vars (get_or marks j 0)
+      step_allowed : (j : ℕ) → j < length states → allowed D (state_of (claim_of p states) j) (state_of (claim_of p states) (follower (claim_of p states) j)) ≡ inside s.vars (get_or marks j 0)
       unfolding allowed taken_word following follower
       step_allowed j l =
           let n : length states ≡ p + (length states - p) = omega arith in
@@ -123,47 +117,39 @@ module _ (read : DeckRead) (inits lefts ends nodes property : List ℕ) (D : Dec
           let f : following (length states) p j ≡ follower (claim_of p states) j = ap (λ (n : ℕ). following n p j) n in
           rw (t, vars_are, f) refl
 
-      module _ (r : ℕ) (first : FirstLacking read.vars marks r) where
-        marks_long : length marks ≡ length states
-        marks_long = its_marks.same ∙ long
+      marks_long : length marks ≡ length states
+      marks_long = its_marks.same ∙ long
 
+      -- The steps before r are allowed.
+      module _ (r : ℕ) (within : r ≤ length marks) (before : (k : ℕ) → k < r → inside s.vars (get_or marks k 0) ≡ true) where
         steps_to : (j : ℕ) → j ≤ r → steps_from D (claim_of p states) (length states) 0 ≡ steps_from D (claim_of p states) (length states - j) j
         unfolding steps_from
         steps_to zero l = let q : length states ≡ length states - 0 = omega arith in ap (λ (n : ℕ). steps_from D (claim_of p states) n 0) q
         steps_to (suc j) l =
-            let q : length states - j ≡ suc (length states - suc j) = omega (arith, first.within, marks_long) in
-            let a = step_allowed j (omega (arith, first.within, marks_long)) ∙ first.before j (omega arith) in
+            let q : length states - j ≡ suc (length states - suc j) = omega (arith, within, marks_long) in
+            let a = step_allowed j (omega (arith, within, marks_long)) ∙ before j (omega arith) in
             steps_to j (omega arith) ∙ ap (λ (n : ℕ). steps_from D (claim_of p states) n j) q ∙ simp (a, steps_from)
 
-        lacking : r < length states → steps_from D (claim_of p states) (length states) 0 ≡ NoSuchStep r
+      module _ (b : Bool) (inits : List ℕ) (q : Tested b inits) (n : b ≡ true) where
+        pub no_step : (r : ℕ) → FirstLacking s.vars marks r → Err (NoStep r) ≡ verdict_answer (verdict D (claim_of p states))
         unfolding steps_from
-        lacking l =
-            let q : length states - r ≡ suc (length states - suc r) = omega arith in
-            let a = step_allowed r l ∙ first.lacks (omega (arith, marks_long)) in
-            steps_to r (omega arith) ∙ ap (λ (n : ℕ). steps_from D (claim_of p states) n r) q ∙ simp (a, steps_from)
+        no_step r first =
+            let l : r < length states = omega (arith, first.within, marks_long) in
+            let e : length states - r ≡ suc (length states - suc r) = omega arith in
+            let a = step_allowed r l ∙ first.lacks in
+            let lacking : steps_from D (claim_of p states) (length states - r) r ≡ NoSuchStep r = ap (λ (m : ℕ). steps_from D (claim_of p states) m r) e ∙ simp (a, steps_from) in
+            sym (ap verdict_answer (initial b inits q n ∙ steps_to r (omega (arith, first.within)) first.before r (omega arith) ∙ lacking))
 
-        pub no_step : (b : Bool) (s : ℕ)
-            → s ≡ get_or states 0 0
-            → b ≡ stands s (take read.initials inits)
-            → not b ≡ false
-            → r < length states
-            → NoStep r ≡ verdict_answer (verdict D (claim_of p states))
-        no_step b s h q n l = sym (ap verdict_answer (initial b s h q n ∙ lacking l))
-
-        pub only-property : (b : Bool) (s : ℕ)
-            → s ≡ get_or states 0 0
-            → b ≡ stands s (take read.initials inits)
-            → not b ≡ false
-            → length states ≤ r
-            → verdict D (claim_of p states) ≡ steps_from D (claim_of p states) 0 0
-        unfolding steps_from
-        only-property b s h q n l =
-            let e : length states - r ≡ 0 = omega arith in
-            initial b s h q n ∙ steps_to r (omega arith) ∙ ap (λ (n : ℕ). steps_from D (claim_of p states) n r) e
+        pub only-property : NoneLacks s.vars marks → verdict D (claim_of p states) ≡ steps_from D (claim_of p states) 0 (length states)
+        only-property none =
+            let e : length states - length states ≡ 0 = omega arith in
+            initial b inits q n
+            ∙ steps_to (length states) (omega (arith, marks_long)) (λ k l. none k (omega (arith, marks_long))) (length states) (omega arith)
+            ∙ ap (λ (m : ℕ). steps_from D (claim_of p states) m (length states)) e
 
   -- ---- 22
 
-  module _ (states : List ℕ) (p : ℕ) (words after : List ℕ) (some : 0 < length after) (f : Evaluated property 0 states p words after) (v : verdict D (claim_of p states) ≡ steps_from D (claim_of p states) 0 0) (w : ℕ) (its : w ≡ get_or after 0 0) where
+  module _ (states : List ℕ) (p : ℕ) (words after : List ℕ) (some : 0 < length after) (f : Evaluated s.property 0 states p words after) (v : verdict D (claim_of p states) ≡ steps_from D (claim_of p states) 0 (length states)) (w : ℕ) (its : w ≡ get_or after 0 0) where
     top_is : w % 2 ≡ truth (claim_of p states) D.property 0
     unfolding truth_word
     top_is =
@@ -172,18 +158,18 @@ module _ (read : DeckRead) (inits lefts ends nodes property : List ℕ) (D : Dec
         let y = g.before 0 x x in
         omega (arith, truth_lt (claim_of p states) D.property 0)
 
-    pub holding : w % 2 ≡ 1 → Holding ≡ verdict_answer (verdict D (claim_of p states))
+    pub holding : w % 2 ≡ 1 → Err Holding ≡ verdict_answer (verdict D (claim_of p states))
     unfolding steps_from
     holding t =
         let a = eq-eqb (truth (claim_of p states) D.property 0) 1 (sym top_is ∙ t) in
-        let h : steps_from D (claim_of p states) 0 0 ≡ HoldingProperty = simp (a, steps_from) in
+        let h : steps_from D (claim_of p states) 0 (length states) ≡ HoldingProperty = simp (a, steps_from) in
         sym (ap verdict_answer (v ∙ h))
 
-    pub breaking : (w % 2 ≡ 1 → ⊥) → Fine ≡ verdict_answer (verdict D (claim_of p states))
+    pub breaking : (w % 2 ≡ 1 → ⊥) → Ok tt ≡ verdict_answer (verdict D (claim_of p states))
     unfolding steps_from
     breaking t =
         let a = ne_eqb (truth (claim_of p states) D.property 0) 1 (λ y. t (top_is ∙ y)) in
-        let h : steps_from D (claim_of p states) 0 0 ≡ Breaking = simp (a, steps_from) in
+        let h : steps_from D (claim_of p states) 0 (length states) ≡ Breaking = simp (a, steps_from) in
         sym (ap verdict_answer (v ∙ h))
 
 -- ---- a claim that was read, and room of zeros, as they are lent

@@ -5,46 +5,30 @@ use mathlib.Core.Bool.{Bool, true, false, ◌||◌}
 use mathlib.Core.List.{List, [], ◌∷◌, ◌++◌}
 use Prim.Native.Nat.{ℕ, zero, suc, ◌+◌, ◌-◌, ◌*◌, ◌/◌, ◌%◌, ◌^◌, ◌<◌, ◌≤◌}
 use native.Mathlib.Omega.{arith}
-use native.Mathlib.Nat.{mod-eq_of_lt, zero-add, lt_of_lt_of_le, div-div-eq-div-mul, pow-suc, pow-succ'}
+use native.Mathlib.Nat.{mod-eq_of_lt, zero-add, div-div-eq-div-mul, pow-suc, pow-succ'}
 use native.Mathlib.Decide.{dec_lt, ℕ_discrete}
 use lib.Dec.{ltb, leb}
-use lib.Pow.{pow_pos, pow-lt, pow_mono}
+use lib.Pow.{pow_pos, pow-lt}
 use lib.Bits.{or_zero_l}
 use lib.Count.{count_trailing_zeros, under}
-use lib.ListN.{length, drop, get_or, set, length-drop, length-set, get_or-eq_default}
-use lib.Seq.{drop-drop, set_out}
-use borrow.Author.Tests.{lt-ltb, le-ltb, ltb-true}
+use lib.ListN.{length, take, drop, get_or, set, length-append, length-drop, length-set, get_or-eq_default}
+use lib.Seq.{drop-drop, drop-append_seam, set_out, take-length}
+use borrow.Author.Tests.{lt-ltb, le-ltb}
+use Rattle.std.specs.Prelude.{Option, Some, None, Result, Ok, Err}
 use Rattle.lists.specs.Lists.{splice}
 use Rattle.lists.proofs.Laws.{splice_nothing, splice-splice, set-splice}
 use Rattle.sets.specs.Sets.{only, union, lowest_of}
 use Rattle.sets.proofs.Laws.{union_assoc}
 use Rattle.logic.specs.Expressions.{Expr, Op1, Op2, Var, One, Two, nodes, written, temporal, node1, node2, code}
-use Rattle.frames.specs.Hex.{digit_of, byte_of}
+use Rattle.frames.specs.Hex.{byte_of}
 use Rattle.frames.specs.Read.{Sign, Leaf, Before, Between, NoSign, signs, sign_of, signed, levelled, begins, read_expr, kind_of}
 use Rattle.decks.specs.Readings.{Reading, Whole, Wrong, Deep, onward}
 use Rattle.codes.specs.Steps.{places_of, leaf_vars, step_of, node_of, nodes_of, Kept}
-use Rattle.codes.specs.declared.Step.{Step}
-use Rattle.lines.proofs.Laws.{kind_short}
-
--- ---- pairs
-
-byte_most : (h l : ℕ) → byte_of h l ≤ 256
-unfolding byte_of
-byte_most h l = go (ltb (digit_of h) 16) refl (ltb (digit_of l) 16) refl
-  where
-    go : (a : Bool) → ltb (digit_of h) 16 ≡ a → (b : Bool) → ltb (digit_of l) 16 ≡ b → byte_of h l ≤ 256
-    go true p true q = let e : byte_of h l ≡ 16 * digit_of h + digit_of l = simp (p, q, byte_of) in omega (arith, ltb-true (digit_of h) 16 p, ltb-true (digit_of l) 16 q)
-    go true p false q = let e : byte_of h l ≡ 256 = simp (p, q, byte_of) in omega arith
-    go false p b q = let e : byte_of h l ≡ 256 = simp (p, byte_of) in omega arith
-
-pub kind_most : (cs : List ℕ) → kind_of cs ≤ 256
-unfolding kind_of
-kind_most [] = omega arith
-kind_most (c ∷ []) = omega arith
-kind_most (c ∷ d ∷ cs) = byte_most c d
-
-pub pair-most : (l : List ℕ) (at r : ℕ) → r ≡ kind_of (drop at l) → r ≤ 256
-pair-most l at r e = rw e (kind_most (drop at l))
+use Rattle.codes.specs.declared.Read.{Read}
+use Rattle.codes.specs.declared.Stop.{Stop}
+use Rattle.codes.specs.declared.Stop.TheVariants.{Wrong as StopWrong, Deep as StopDeep}
+use Rattle.lines.specs.Numbers.{pair_read}
+use Rattle.lines.proofs.Laws.{kind_short, some_below, none_below, two_kind}
 
 -- ---- codes
 
@@ -126,11 +110,11 @@ code-begun =
     (λ b h. subst (Begun b) (sym (sign_none b h)) tt)
 
 -- The operands of a sign, by its code.
-unfoldable places_at : ℕ → ℕ
+unfoldable places_at : ℕ → Option ℕ
 places_at b =
     elim (ltb b 66) [
-      | true ↦ 0
-      | false ↦ elim (ltb b 67) [ true ↦ 1 | false ↦ elim (ltb b 69) [ true ↦ 2 | false ↦ elim (ltb b 72) [ true ↦ 1 | false ↦ elim (ltb b 74) [ true ↦ 2 | false ↦ 3 ] ] ] ]
+      | true ↦ Some 0
+      | false ↦ elim (ltb b 67) [ true ↦ Some 1 | false ↦ elim (ltb b 69) [ true ↦ Some 2 | false ↦ elim (ltb b 72) [ true ↦ Some 1 | false ↦ elim (ltb b 74) [ true ↦ Some 2 | false ↦ None ] ] ] ]
     ]
 
 places_at_lem : (b : ℕ) → places_at b ≡ places_of (sign_of b)
@@ -138,39 +122,39 @@ unfolding sign_of places_at
 places_at_lem =
     code_cases
     (λ b. places_at b ≡ places_of (sign_of b))
-    (λ v h. let k : v < 66 = omega arith in let z : places_at v ≡ 0 = simp (lt-ltb v 66 k, places_at) in z ∙ sym (ap places_of (sign_var v h)))
+    (λ v h. let k : v < 66 = omega arith in let z : places_at v ≡ Some 0 = simp (lt-ltb v 66 k, places_at) in z ∙ sym (ap places_of (sign_var v h)))
     refl refl refl refl refl refl refl refl refl refl
     (λ b h.
     let h6 : 66 ≤ b = omega arith in
     let h7 : 67 ≤ b = omega arith in
     let h9 : 69 ≤ b = omega arith in
     let h2 : 72 ≤ b = omega arith in
-    let z : places_at b ≡ 3 = simp (le-ltb b 66 h6, le-ltb b 67 h7, le-ltb b 69 h9, le-ltb b 72 h2, le-ltb b 74 h, places_at) in
+    let z : places_at b ≡ None = simp (le-ltb b 66 h6, le-ltb b 67 h7, le-ltb b 69 h9, le-ltb b 72 h2, le-ltb b 74 h, places_at) in
     z ∙ sym (ap places_of (sign_none b h)))
 
 module _ (b : ℕ) where
-  pub places_leaf : b < 66 → 0 ≡ places_of (sign_of b)
+  pub places_leaf : b ≤ 65 → Some 0 ≡ places_of (sign_of b)
   unfolding places_at
-  places_leaf h = let z : places_at b ≡ 0 = simp (lt-ltb b 66 h, places_at) in sym z ∙ places_at_lem b
+  places_leaf h = let i : b < 66 = omega arith in let z : places_at b ≡ Some 0 = simp (lt-ltb b 66 i, places_at) in sym z ∙ places_at_lem b
 
-  pub places_not : 66 ≤ b → b < 67 → 1 ≡ places_of (sign_of b)
+  pub places_not : b ≡ 66 → Some 1 ≡ places_of (sign_of b)
   unfolding places_at
-  places_not h i = let z : places_at b ≡ 1 = simp (le-ltb b 66 h, lt-ltb b 67 i, places_at) in sym z ∙ places_at_lem b
+  places_not h = let z : places_at 66 ≡ Some 1 = refl in sym z ∙ ap places_at (sym h) ∙ places_at_lem b
 
-  pub places_and : 66 ≤ b → 67 ≤ b → b < 69 → 2 ≡ places_of (sign_of b)
+  pub places_and : 67 ≤ b → b ≤ 68 → Some 2 ≡ places_of (sign_of b)
   unfolding places_at
-  places_and h i j = let z : places_at b ≡ 2 = simp (le-ltb b 66 h, le-ltb b 67 i, lt-ltb b 69 j, places_at) in sym z ∙ places_at_lem b
+  places_and h i = let h6 : 66 ≤ b = omega arith in let h9 : b < 69 = omega arith in let z : places_at b ≡ Some 2 = simp (le-ltb b 66 h6, le-ltb b 67 h, lt-ltb b 69 h9, places_at) in sym z ∙ places_at_lem b
 
-  pub places_next : 66 ≤ b → 67 ≤ b → 69 ≤ b → b < 72 → 1 ≡ places_of (sign_of b)
+  pub places_next : 69 ≤ b → b ≤ 71 → Some 1 ≡ places_of (sign_of b)
   unfolding places_at
-  places_next h i j k = let z : places_at b ≡ 1 = simp (le-ltb b 66 h, le-ltb b 67 i, le-ltb b 69 j, lt-ltb b 72 k, places_at) in sym z ∙ places_at_lem b
+  places_next h i = let h6 : 66 ≤ b = omega arith in let h7 : 67 ≤ b = omega arith in let h2 : b < 72 = omega arith in let z : places_at b ≡ Some 1 = simp (le-ltb b 66 h6, le-ltb b 67 h7, le-ltb b 69 h, lt-ltb b 72 h2, places_at) in sym z ∙ places_at_lem b
 
-  pub places_until : 66 ≤ b → 67 ≤ b → 69 ≤ b → 72 ≤ b → b < 74 → 2 ≡ places_of (sign_of b)
+  pub places_until : 72 ≤ b → b ≤ 73 → Some 2 ≡ places_of (sign_of b)
   unfolding places_at
-  places_until h i j k l = let z : places_at b ≡ 2 = simp (le-ltb b 66 h, le-ltb b 67 i, le-ltb b 69 j, le-ltb b 72 k, lt-ltb b 74 l, places_at) in sym z ∙ places_at_lem b
+  places_until h i = let h6 : 66 ≤ b = omega arith in let h7 : 67 ≤ b = omega arith in let h9 : 69 ≤ b = omega arith in let h4 : b < 74 = omega arith in let z : places_at b ≡ Some 2 = simp (le-ltb b 66 h6, le-ltb b 67 h7, le-ltb b 69 h9, le-ltb b 72 h, lt-ltb b 74 h4, places_at) in sym z ∙ places_at_lem b
 
-  pub places_none : 66 ≤ b → 67 ≤ b → 69 ≤ b → 72 ≤ b → 74 ≤ b → 3 ≡ places_of (sign_of b)
-  places_none h i j k l = sym (ap places_of (sign_none b l))
+  pub places_none : 74 ≤ b → None ≡ places_of (sign_of b)
+  places_none h = sym (ap places_of (sign_none b h))
 
   pub vars-variable : (r : ℕ) → b < 64 → r ≡ only b % 2 ^ 64 → r ≡ leaf_vars b
   unfolding leaf_vars
@@ -224,7 +208,7 @@ read_begins left cs s e = signed_is (begins (read_expr left) cs) cs ∙ ap (λ (
 
 -- ---- what a whole expression takes of the pairs
 
-pub nodes_of_add : (m k : ℕ) (cs : List ℕ) → nodes_of (m + k) cs ≡ nodes_of m cs ++ nodes_of k (drop (2 * m) cs)
+nodes_of_add : (m k : ℕ) (cs : List ℕ) → nodes_of (m + k) cs ≡ nodes_of m cs ++ nodes_of k (drop (2 * m) cs)
 unfolding nodes_of
 nodes_of_add zero k cs = ap (λ (n : ℕ). nodes_of n cs) (zero-add k)
 nodes_of_add (suc m) k cs =
@@ -263,7 +247,7 @@ module _ (cs : List ℕ) where
       }
     where
       apart : NoSign ≡ Leaf e → ⊥
-      apart n = let z : ◌≡◌ {A = ℕ} 3 0 = ap places_of n in omega arith
+      apart n = cc
 
   one_spans : (o : Op1) (e : Expr) (rest : List ℕ) → sign_of (kind_of cs) ≡ Before o → Spans (drop 2 cs) e rest → Spans cs (One o e) rest
   unfolding nodes code nodes_of
@@ -279,7 +263,7 @@ module _ (cs : List ℕ) where
       }
     where
       apart : NoSign ≡ Before o → ⊥
-      apart n = let z : ◌≡◌ {A = ℕ} 3 1 = ap places_of n in omega arith
+      apart n = cc
 
   two_spans : (o : Op2) (e f : Expr) (mid rest : List ℕ) → sign_of (kind_of cs) ≡ Between o → Spans (drop 2 cs) e mid → Spans mid f rest → Spans cs (Two o e f) rest
   unfolding nodes code nodes_of
@@ -296,7 +280,7 @@ module _ (cs : List ℕ) where
       }
     where
       apart : NoSign ≡ Between o → ⊥
-      apart n = let z : ◌≡◌ {A = ℕ} 3 2 = ap places_of n in omega arith
+      apart n = cc
 
 spanned : (left : ℕ) (cs : List ℕ) → Spanned cs (read_expr left cs)
 spanned zero cs = go (sign_of (kind_of cs)) refl
@@ -305,9 +289,9 @@ spanned zero cs = go (sign_of (kind_of cs)) refl
     deep n = subst (Spanned cs) (sym (read_deep cs n)) tt
 
     go : (s : Sign) → sign_of (kind_of cs) ≡ s → Spanned cs (read_expr 0 cs)
-    go (Leaf e) q = deep (λ n. let z : ◌≡◌ {A = ℕ} 3 0 = ap places_of (sym n ∙ q) in absurd (omega arith))
-    go (Before o) q = deep (λ n. let z : ◌≡◌ {A = ℕ} 3 1 = ap places_of (sym n ∙ q) in absurd (omega arith))
-    go (Between o) q = deep (λ n. let z : ◌≡◌ {A = ℕ} 3 2 = ap places_of (sym n ∙ q) in absurd (omega arith))
+    go (Leaf e) q = deep (λ n. let z = sym n ∙ q in cc)
+    go (Before o) q = deep (λ n. let z = sym n ∙ q in cc)
+    go (Between o) q = deep (λ n. let z = sym n ∙ q in cc)
     go NoSign q = subst (Spanned cs) (sym (read_none 0 cs q)) tt
 spanned (suc left) cs = go (spanned left) (sign_of (kind_of cs)) refl
   where
@@ -332,24 +316,25 @@ whole-spans left cs e rest q = subst (Spanned cs) q (spanned left cs)
 -- ---- the steps of the reader
 
 -- What a whole expression, one that stopped wrong and one that stopped too deep answer.
-abbrev pub whole_step : ℕ → ℕ → ℕ → Bool → Step
-whole_step next n v t = record { stop = 0; next = next; nodes = n; vars = v; temporal = t }
-
-abbrev pub stopped_step : ℕ → ℕ → Step
-stopped_step stop next = record { stop = stop; next = next; nodes = 0; vars = 0; temporal = false }
+abbrev pub whole_step : ℕ → ℕ → ℕ → Bool → Result Read Stop
+whole_step next n v t = Ok (record { written = record { nodes = n; vars = v; temporal = t }; next = next })
 
 -- A reading that did not stop is whole.
-pub whole_when : (n : ℕ) (a : Step) (r : Reading) → a ≡ step_of n r → a.stop ≡ 0 → (e : Expr) × (rest : List ℕ) × (r ≡ Whole e rest)
-whole_when n a (Whole e cs) p q = (e, cs, refl)
-whole_when n a (Wrong cs) p q = let z : ◌≡◌ {A = ℕ} 1 0 = sym (ap (λ (s : Step). s.stop) p) ∙ q in absurd (omega arith)
-whole_when n a (Deep cs) p q = let z : ◌≡◌ {A = ℕ} 2 0 = sym (ap (λ (s : Step). s.stop) p) ∙ q in absurd (omega arith)
+pub whole_when : (n : ℕ) (a : Read) (r : Reading) → Ok a ≡ step_of n r → (e : Expr) × (rest : List ℕ) × (r ≡ Whole e rest)
+whole_when n a (Whole e cs) p = (e, cs, refl)
+whole_when n a (Wrong cs) p = cc
+whole_when n a (Deep cs) p = cc
+
+read_eq : (a b : Read) → ◌≡◌ {A = Result Read Stop} (Ok a) (Ok b) → a ≡ b
+read_eq a b e = cc
 
 -- Where a whole expression ends, what is left begins.
-pub whole_next : (l : List ℕ) (at left : ℕ) (a : Step) (e : Expr) (rest : List ℕ) → at ≤ length l → a ≡ step_of (length l) (read_expr left (drop at l)) → read_expr left (drop at l) ≡ Whole e rest → (a.next ≡ at + 2 * nodes e) × (a.next ≤ length l) × (rest ≡ drop a.next l)
+pub whole_next : (l : List ℕ) (at left : ℕ) (a : Read) (e : Expr) (rest : List ℕ) → at ≤ length l → Ok a ≡ step_of (length l) (read_expr left (drop at l)) → read_expr left (drop at l) ≡ Whole e rest → (a.next ≡ at + 2 * nodes e) × (a.next ≤ length l) × (rest ≡ drop a.next l)
 whole_next l at left a e rest h p q =
     let s : Spans (drop at l) e rest = whole-spans left (drop at l) e rest q in
     let r : rest ≡ drop (at + 2 * nodes e) l = s.rest_is ∙ drop-drop (2 * nodes e) at l in
-    let n : a.next ≡ length l - length rest = ap (λ (x : Step). x.next) (p ∙ ap (step_of (length l)) q) in
+    let same : a ≡ record { written = record { nodes = nodes e; vars = written e; temporal = temporal e }; next = length l - length rest } = read_eq _ _ (p ∙ ap (step_of (length l)) q) in
+    let n : a.next ≡ length l - length rest = ap (λ (x : Read). x.next) same in
     let i : a.next ≡ at + 2 * nodes e = n ∙ omega (arith, s.room, ap (λ (x : List ℕ). length x) r, length-drop at l, length-drop (at + 2 * nodes e) l) in
     (i, omega (arith, i, s.room, length-drop at l), r ∙ ap (λ (x : ℕ). drop x l) (sym i))
 
@@ -437,29 +422,37 @@ nearest (suc k) (suc d) w l h m n =
 -- ---- the reading so far, and what is still to be read
 
 -- What a reading comes to, once it is known what a whole one comes to.
-abbrev goes : (Expr → List ℕ → Step) → ℕ → Reading → Step
+abbrev goes : (Expr → List ℕ → Result Read Stop) → ℕ → Reading → Result Read Stop
 goes f n (Whole e rest) = f e rest
-goes f n (Wrong rest) = stopped_step 1 (n - length rest)
-goes f n (Deep rest) = stopped_step 2 (n - length rest)
+goes f n (Wrong rest) = Err (StopWrong (n - length rest))
+goes f n (Deep rest) = Err (StopDeep (n - length rest))
 
-goes_onward : (f : Expr → List ℕ → Step) (n : ℕ) (r : Reading) (g : Expr → List ℕ → Reading) → goes f n (onward r g) ≡ goes (λ e rest. goes f n (g e rest)) n r
+goes_onward : (f : Expr → List ℕ → Result Read Stop) (n : ℕ) (r : Reading) (g : Expr → List ℕ → Reading) → goes f n (onward r g) ≡ goes (λ e rest. goes f n (g e rest)) n r
 goes_onward f n (Whole e rest) g = refl
 goes_onward f n (Wrong rest) g = refl
 goes_onward f n (Deep rest) g = refl
 
-goes_same : (f g : Expr → List ℕ → Step) (n : ℕ) (r : Reading) → ((e : Expr) (rest : List ℕ) → f e rest ≡ g e rest) → goes f n r ≡ goes g n r
+goes_same : (f g : Expr → List ℕ → Result Read Stop) (n : ℕ) (r : Reading) → ((e : Expr) (rest : List ℕ) → f e rest ≡ g e rest) → goes f n r ≡ goes g n r
 goes_same f g n (Whole e rest) h = h e rest
 goes_same f g n (Wrong rest) h = refl
 goes_same f g n (Deep rest) h = refl
 
 -- The answer in a line of n characters, behind k nodes with the variables v, where an expression of each of these levels is still to be read, one behind the other.
-unfoldable pub reads : ℕ → List ℕ → List ℕ → ℕ → ℕ → Bool → Step
+unfoldable pub reads : ℕ → List ℕ → List ℕ → ℕ → ℕ → Bool → Result Read Stop
 reads n [] cs k v t = whole_step (n - length cs) k v t
 reads n (l ∷ ls) cs k v t = goes (λ e rest. reads n ls rest (k + nodes e) (union v (written e)) (t || temporal e)) n (read_expr l cs)
 
 or_false : (t : Bool) → t || false ≡ t
 or_false true = refl
 or_false false = refl
+
+pub or_here : (a t : Bool) → a ≡ true → a ≡ a || t
+or_here true t h = refl
+or_here false t h = cc
+
+pub or_there : (a t : Bool) → a ≡ false → t ≡ a || t
+or_there true t h = cc
+or_there false t h = refl
 
 or_swap : (t u x : Bool) → t || (u || x) ≡ (u || t) || x
 or_swap true true x = refl
@@ -481,11 +474,11 @@ reads_alone n l cs = go (read_expr l cs)
     go (Deep rest) = refl
 
 module _ (n : ℕ) (ls cs : List ℕ) (k v : ℕ) (t : Bool) where
-  reads_wrong : (l : ℕ) → sign_of (kind_of cs) ≡ NoSign → reads n (l ∷ ls) cs k v t ≡ stopped_step 1 (n - length cs)
+  reads_wrong : (l : ℕ) → sign_of (kind_of cs) ≡ NoSign → reads n (l ∷ ls) cs k v t ≡ Err (StopWrong (n - length cs))
   unfolding reads
   reads_wrong l q = ap (goes (λ e rest. reads n ls rest (k + nodes e) (union v (written e)) (t || temporal e)) n) (read_none l cs q)
 
-  reads_deep : (sign_of (kind_of cs) ≡ NoSign → ⊥) → reads n (0 ∷ ls) cs k v t ≡ stopped_step 2 (n - length cs)
+  reads_deep : (sign_of (kind_of cs) ≡ NoSign → ⊥) → reads n (0 ∷ ls) cs k v t ≡ Err (StopDeep (n - length cs))
   unfolding reads
   reads_deep q = ap (goes (λ e rest. reads n ls rest (k + nodes e) (union v (written e)) (t || temporal e)) n) (read_deep cs q)
 
@@ -504,7 +497,7 @@ module _ (n : ℕ) (ls cs : List ℕ) (k v : ℕ) (t : Bool) where
   reads_one l o q =
       let u : Bool = leb 69 (kind_of cs) in
       let f : Begun (kind_of cs) (Before o) = subst (Begun (kind_of cs)) q (code-begun (kind_of cs)) in
-      let on : Expr → List ℕ → Step = λ e rest. reads n ls rest (k + nodes e) (union v (written e)) (t || temporal e) in
+      let on : Expr → List ℕ → Result Read Stop = λ e rest. reads n ls rest (k + nodes e) (union v (written e)) (t || temporal e) in
       ap (goes on n) (read_begins l cs (Before o) q)
       ∙ goes_onward on n (read_expr l (drop 2 cs)) (λ a rest. Whole (One o a) rest)
       ∙ goes_same (λ a rest. on (One o a) rest) (λ a rest. reads n ls rest (k + 1 + nodes a) (union v (written a)) ((u || t) || temporal a)) n (read_expr l (drop 2 cs))
@@ -518,8 +511,8 @@ module _ (n : ℕ) (ls cs : List ℕ) (k v : ℕ) (t : Bool) where
   reads_two l o q =
       let u : Bool = leb 69 (kind_of cs) in
       let f : Begun (kind_of cs) (Between o) = subst (Begun (kind_of cs)) q (code-begun (kind_of cs)) in
-      let on : Expr → List ℕ → Step = λ e rest. reads n ls rest (k + nodes e) (union v (written e)) (t || temporal e) in
-      let then : Expr → Expr → List ℕ → Step = λ a b last. reads n ls last (k + 1 + nodes a + nodes b) (union (union v (written a)) (written b)) (((u || t) || temporal a) || temporal b) in
+      let on : Expr → List ℕ → Result Read Stop = λ e rest. reads n ls rest (k + nodes e) (union v (written e)) (t || temporal e) in
+      let then : Expr → Expr → List ℕ → Result Read Stop = λ a b last. reads n ls last (k + 1 + nodes a + nodes b) (union (union v (written a)) (written b)) (((u || t) || temporal a) || temporal b) in
       ap (goes on n) (read_begins l cs (Between o) q)
       ∙ goes_onward on n (read_expr l (drop 2 cs)) (λ a rest. onward (read_expr l rest) (λ b last. Whole (Two o a b) last))
       ∙ goes_same (λ a rest. goes on n (onward (read_expr l rest) (λ b last. Whole (Two o a b) last))) (λ a rest. goes (then a) n (read_expr l rest)) n (read_expr l (drop 2 cs))
@@ -533,27 +526,30 @@ module _ (n : ℕ) (ls cs : List ℕ) (k v : ℕ) (t : Bool) where
       ∙ ap (λ (x : ℕ). reads n ls last (k + 1 + nodes a + nodes b) x (t || temporal (Two o a b))) (union_assoc v (written a) (written b))
       ∙ ap (reads n ls last (k + 1 + nodes a + nodes b) (union (union v (written a)) (written b))) ever))
 
+some_eq : {a b : ℕ} → Some a ≡ Some b → a ≡ b
+some_eq e = cc
+
 module _ (b k : ℕ) where
-  no_sign : k ≡ places_of (sign_of b) → k ≡ 3 → sign_of b ≡ NoSign
-  no_sign p q = go (sign_of b) (sym p ∙ q)
+  no_sign : None ≡ places_of (sign_of b) → sign_of b ≡ NoSign
+  no_sign q = go (sign_of b) q
     where
-      go : (s : Sign) → places_of s ≡ 3 → s ≡ NoSign
-      go (Leaf e) r = absurd (omega arith)
-      go (Before o) r = absurd (omega arith)
-      go (Between o) r = absurd (omega arith)
+      go : (s : Sign) → None ≡ places_of s → s ≡ NoSign
+      go (Leaf e) r = cc
+      go (Before o) r = cc
+      go (Between o) r = cc
       go NoSign r = refl
 
-  a_sign : k ≡ places_of (sign_of b) → (k ≡ 3 → ⊥) → sign_of b ≡ NoSign → ⊥
-  a_sign p n q = n (p ∙ ap places_of q)
+  a_sign : Some k ≡ places_of (sign_of b) → sign_of b ≡ NoSign → ⊥
+  a_sign p q = let z : Some k ≡ None = p ∙ ap places_of q in cc
 
-  pub places_most : k ≡ places_of (sign_of b) → (k ≡ 3 → ⊥) → k ≤ 2
-  places_most p n = go (sign_of b) refl
+  places_most : Some k ≡ places_of (sign_of b) → k ≤ 2
+  places_most p = go (sign_of b) p
     where
-      go : (s : Sign) → sign_of b ≡ s → k ≤ 2
-      go (Leaf e) r = omega (arith, p ∙ ap places_of r)
-      go (Before o) r = omega (arith, p ∙ ap places_of r)
-      go (Between o) r = omega (arith, p ∙ ap places_of r)
-      go NoSign r = absurd (a_sign p n r)
+      go : (s : Sign) → Some k ≡ places_of s → k ≤ 2
+      go (Leaf e) r = let z : k ≡ 0 = cc in omega arith
+      go (Before o) r = let z : k ≡ 1 = cc in omega arith
+      go (Between o) r = let z : k ≡ 2 = cc in omega arith
+      go NoSign r = cc
 
 module _ (line : List ℕ) (at left i l w k v : ℕ) (t : Bool) where
   -- The answer on the whole is that on what is still to be read from the place i on, behind what was read.
@@ -563,28 +559,28 @@ module _ (line : List ℕ) (at left i l w k v : ℕ) (t : Bool) where
   place_is : i ≤ length line → length line - length (drop i line) ≡ i
   place_is h = omega (arith, length-drop i line)
 
-  pub sofar_over : Sofar → i ≤ length line → length line ≤ i + 1 → stopped_step 1 i ≡ step_of (length line) (read_expr left (drop at line))
+  sofar_over : Sofar → i ≤ length line → length line ≤ i + 1 → Err (StopWrong i) ≡ step_of (length line) (read_expr left (drop at line))
   unfolding sign_of
   sofar_over s h o =
       let none : sign_of (kind_of (drop i line)) ≡ NoSign = ap sign_of (kind_short (drop i line) (omega (arith, length-drop i line))) in
-      sym (s ∙ reads_wrong (length line) (levels (left - l) w l) (drop i line) k v t l none ∙ ap (stopped_step 1) (place_is h))
+      sym (s ∙ reads_wrong (length line) (levels (left - l) w l) (drop i line) k v t l none ∙ ap (λ (x : ℕ). Err (StopWrong x)) (place_is h))
 
   module _ (b p : ℕ) where
-    pub sofar_wrong : Sofar → i ≤ length line → b ≡ kind_of (drop i line) → p ≡ places_of (sign_of b) → p ≡ 3 → stopped_step 1 i ≡ step_of (length line) (read_expr left (drop at line))
-    sofar_wrong s h e q r =
-        sym (s ∙ reads_wrong (length line) (levels (left - l) w l) (drop i line) k v t l (ap sign_of (sym e) ∙ no_sign b p q r) ∙ ap (stopped_step 1) (place_is h))
+    sofar_wrong : Sofar → i ≤ length line → b ≡ kind_of (drop i line) → None ≡ places_of (sign_of b) → Err (StopWrong i) ≡ step_of (length line) (read_expr left (drop at line))
+    sofar_wrong s h e q =
+        sym (s ∙ reads_wrong (length line) (levels (left - l) w l) (drop i line) k v t l (ap sign_of (sym e) ∙ no_sign b p q) ∙ ap (λ (x : ℕ). Err (StopWrong x)) (place_is h))
 
-    pub sofar_deep : Sofar → i ≤ length line → b ≡ kind_of (drop i line) → p ≡ places_of (sign_of b) → (p ≡ 3 → ⊥) → l ≡ 0 → stopped_step 2 i ≡ step_of (length line) (read_expr left (drop at line))
-    sofar_deep s h e q r z =
-        let none : (sign_of (kind_of (drop i line)) ≡ NoSign → ⊥) = λ n. a_sign b p q r (ap sign_of e ∙ n) in
+    sofar_deep : Sofar → i ≤ length line → b ≡ kind_of (drop i line) → Some p ≡ places_of (sign_of b) → l ≡ 0 → Err (StopDeep i) ≡ step_of (length line) (read_expr left (drop at line))
+    sofar_deep s h e q z =
+        let none : (sign_of (kind_of (drop i line)) ≡ NoSign → ⊥) = λ n. a_sign b p q (ap sign_of e ∙ n) in
         sym
         (s
         ∙ ap (λ (x : ℕ). reads (length line) (x ∷ levels (left - l) w l) (drop i line) k v t) z
         ∙ reads_deep (length line) (levels (left - l) w l) (drop i line) k v t none
-        ∙ ap (stopped_step 2) (place_is h))
+        ∙ ap (λ (x : ℕ). Err (StopDeep x)) (place_is h))
 
     -- A leaf: what comes next are the operands to come.
-    leaf_read : (x u : ℕ) → Sofar → b ≡ kind_of (drop i line) → p ≡ places_of (sign_of b) → (l ≡ 0 → ⊥) → p ≡ 0 → x ≡ leaf_vars b → u ≡ union v x → step_of (length line) (read_expr left (drop at line)) ≡ reads (length line) (levels (left - l) w l) (drop (i + 2) line) (k + 1) u t
+    leaf_read : (x u : ℕ) → Sofar → b ≡ kind_of (drop i line) → Some p ≡ places_of (sign_of b) → (l ≡ 0 → ⊥) → p ≡ 0 → x ≡ leaf_vars b → u ≡ union v x → step_of (length line) (read_expr left (drop at line)) ≡ reads (length line) (levels (left - l) w l) (drop (i + 2) line) (k + 1) u t
     leaf_read x u s e q m z f g = go (sign_of b) refl
       where
         go : (y : Sign) → sign_of b ≡ y → step_of (length line) (read_expr left (drop at line)) ≡ reads (length line) (levels (left - l) w l) (drop (i + 2) line) (k + 1) u t
@@ -596,11 +592,11 @@ module _ (line : List ℕ) (at left i l w k v : ℕ) (t : Bool) where
             ∙ reads_leaf (length line) (levels (left - l) w l) (drop i line) k v t (l - 1) a (ap sign_of (sym e) ∙ r)
             ∙ ap (λ (y : List ℕ). reads (length line) (levels (left - l) w l) y (k + 1) (union v (leaf_vars (kind_of (drop i line)))) t) (drop-drop 2 i line)
             ∙ ap (λ (y : ℕ). reads (length line) (levels (left - l) w l) (drop (i + 2) line) (k + 1) y t) vars
-        go (Before o) r = let y : ◌≡◌ {A = ℕ} 1 0 = sym (ap places_of r) ∙ sym q ∙ z in absurd (omega arith)
-        go (Between o) r = let y : ◌≡◌ {A = ℕ} 2 0 = sym (ap places_of r) ∙ sym q ∙ z in absurd (omega arith)
-        go NoSign r = let y : ◌≡◌ {A = ℕ} 3 0 = sym (ap places_of r) ∙ sym q ∙ z in absurd (omega arith)
+        go (Before o) r = let y : p ≡ 1 = some_eq (q ∙ ap places_of r) in absurd (omega arith)
+        go (Between o) r = let y : p ≡ 2 = some_eq (q ∙ ap places_of r) in absurd (omega arith)
+        go NoSign r = absurd (a_sign b p q r)
 
-    pub sofar_whole : (x u : ℕ) → Sofar → i + 1 < length line → b ≡ kind_of (drop i line) → p ≡ places_of (sign_of b) → (l ≡ 0 → ⊥) → p ≡ 0 → x ≡ leaf_vars b → u ≡ union v x → w ≡ 0 → whole_step (i + 2) (k + 1) u t ≡ step_of (length line) (read_expr left (drop at line))
+    sofar_whole : (x u : ℕ) → Sofar → i + 1 < length line → b ≡ kind_of (drop i line) → Some p ≡ places_of (sign_of b) → (l ≡ 0 → ⊥) → p ≡ 0 → x ≡ leaf_vars b → u ≡ union v x → w ≡ 0 → whole_step (i + 2) (k + 1) u t ≡ step_of (length line) (read_expr left (drop at line))
     unfolding reads
     sofar_whole x u s h e q m z f g o =
         let place : length line - length (drop (i + 2) line) ≡ i + 2 = omega (arith, length-drop (i + 2) line) in
@@ -617,42 +613,29 @@ module _ (line : List ℕ) (at left i l w k v : ℕ) (t : Bool) where
       pub comes_some : l ≤ left → left ≤ 64 → w < 2 ^ (left - l) → (w ≡ 0 → ⊥) → s ≡ lowest_of w → 1 ≤ w / 2 ^ s
       comes_some h m j n e = (comes h m j n e).some
 
-      pub comes_near : l ≤ left → left ≤ 64 → w < 2 ^ (left - l) → (w ≡ 0 → ⊥) → s ≡ lowest_of w → l + s ≤ left
+      comes_near : l ≤ left → left ≤ 64 → w < 2 ^ (left - l) → (w ≡ 0 → ⊥) → s ≡ lowest_of w → l + s ≤ left
       comes_near h m j n e = omega (arith, (comes h m j n e).few)
-
-      pub comes_fits : l ≤ left → left ≤ 64 → w < 2 ^ (left - l) → (w ≡ 0 → ⊥) → s ≡ lowest_of w → l + s < 2 ^ 64
-      comes_fits h m j n e = omega (arith, comes_near h m j n e)
 
       left_less : left - l - s ≡ left - (l + s)
       left_less = omega arith
 
-      pub comes_within : l ≤ left → left ≤ 64 → w < 2 ^ (left - l) → (w ≡ 0 → ⊥) → s ≡ lowest_of w → s < 64
-      comes_within h m j n e = omega (arith, (comes h m j n e).few)
-
-      pub comes_less : l ≤ left → left ≤ 64 → w < 2 ^ (left - l) → (w ≡ 0 → ⊥) → s ≡ lowest_of w → w / 2 ^ s - 1 < 2 ^ (left - (l + s))
+      comes_less : l ≤ left → left ≤ 64 → w < 2 ^ (left - l) → (w ≡ 0 → ⊥) → s ≡ lowest_of w → w / 2 ^ s - 1 < 2 ^ (left - (l + s))
       comes_less h m j n e = subst (λ (y : ℕ). w / 2 ^ s - 1 < 2 ^ y) left_less (comes h m j n e).less
 
-      pub sofar_leaf : (x u : ℕ) → Sofar → b ≡ kind_of (drop i line) → p ≡ places_of (sign_of b) → (l ≡ 0 → ⊥) → p ≡ 0 → x ≡ leaf_vars b → u ≡ union v x → l ≤ left → left ≤ 64 → w < 2 ^ (left - l) → (w ≡ 0 → ⊥) → s ≡ lowest_of w → step_of (length line) (read_expr left (drop at line)) ≡ reads (length line) ((l + s) ∷ levels (left - (l + s)) (w / 2 ^ s - 1) (l + s)) (drop (i + 2) line) (k + 1) u t
+      sofar_leaf : (x u : ℕ) → Sofar → b ≡ kind_of (drop i line) → Some p ≡ places_of (sign_of b) → (l ≡ 0 → ⊥) → p ≡ 0 → x ≡ leaf_vars b → u ≡ union v x → l ≤ left → left ≤ 64 → w < 2 ^ (left - l) → (w ≡ 0 → ⊥) → s ≡ lowest_of w → step_of (length line) (read_expr left (drop at line)) ≡ reads (length line) ((l + s) ∷ levels (left - (l + s)) (w / 2 ^ s - 1) (l + s)) (drop (i + 2) line) (k + 1) u t
       sofar_leaf x u r e q m z f g a d j n o =
           leaf_read x u r e q m z f g
           ∙ ap (λ (y : List ℕ). reads (length line) y (drop (i + 2) line) (k + 1) u t) (comes a d j n o).levels_are
           ∙ ap (λ (y : ℕ). reads (length line) ((l + s) ∷ levels y (w / 2 ^ s - 1) (l + s)) (drop (i + 2) line) (k + 1) u t) left_less
 
     -- A sign: its operands come next.
-    pub sofar_less : (c : ℕ) → l ≤ left → (l ≡ 0 → ⊥) → w < 2 ^ (left - l) → p ≡ places_of (sign_of b) → (p ≡ 3 → ⊥) → (p ≡ 0 → ⊥) → c ≡ p - 1 → 2 * w + c < 2 ^ (left - (l - 1))
-    sofar_less c h m j q n z e =
+    sofar_less : (c : ℕ) → l ≤ left → (l ≡ 0 → ⊥) → w < 2 ^ (left - l) → Some p ≡ places_of (sign_of b) → (p ≡ 0 → ⊥) → c ≡ p - 1 → 2 * w + c < 2 ^ (left - (l - 1))
+    sofar_less c h m j q z e =
         let more : left - (l - 1) ≡ suc (left - l) = omega arith in
-        subst (λ (y : ℕ). 2 * w + c < 2 ^ y) (sym more) (omega (arith, pow-suc 2 (left - l), e, places_most b p q n))
+        subst (λ (y : ℕ). 2 * w + c < 2 ^ y) (sym more) (omega (arith, pow-suc 2 (left - l), e, places_most b p q))
 
-    -- The word of the operands to come fits.
-    pub sofar_fits : (c : ℕ) → l ≤ left → left ≤ 64 → (l ≡ 0 → ⊥) → w < 2 ^ (left - l) → p ≡ places_of (sign_of b) → (p ≡ 3 → ⊥) → (p ≡ 0 → ⊥) → c ≡ p - 1 → 2 * w + c < 2 ^ 64
-    sofar_fits c h m n j q r z e = let few : left - (l - 1) ≤ 64 = omega arith in lt_of_lt_of_le (sofar_less c h n j q r z e) (pow_mono few)
-
-    pub sofar_doubled : l ≤ left → left ≤ 64 → (l ≡ 0 → ⊥) → w < 2 ^ (left - l) → p ≡ places_of (sign_of b) → (p ≡ 3 → ⊥) → (p ≡ 0 → ⊥) → 2 * w < 2 ^ 64
-    sofar_doubled h m n j q r z = omega (arith, sofar_fits (p - 1) h m n j q r z refl)
-
-    pub sofar_sign : (c : ℕ) (a u : Bool) → Sofar → b ≡ kind_of (drop i line) → p ≡ places_of (sign_of b) → (p ≡ 3 → ⊥) → (l ≡ 0 → ⊥) → (p ≡ 0 → ⊥) → l ≤ left → a ≡ leb 69 b → u ≡ (a || t) → c ≡ p - 1 → step_of (length line) (read_expr left (drop at line)) ≡ reads (length line) ((l - 1) ∷ levels (left - (l - 1)) (2 * w + c) (l - 1)) (drop (i + 2) line) (k + 1) v u
-    sofar_sign c a u s e q n m z h f g d = go (sign_of b) refl
+    sofar_sign : (c : ℕ) (a u : Bool) → Sofar → b ≡ kind_of (drop i line) → Some p ≡ places_of (sign_of b) → (l ≡ 0 → ⊥) → (p ≡ 0 → ⊥) → l ≤ left → a ≡ leb 69 b → u ≡ (a || t) → c ≡ p - 1 → step_of (length line) (read_expr left (drop at line)) ≡ reads (length line) ((l - 1) ∷ levels (left - (l - 1)) (2 * w + c) (l - 1)) (drop (i + 2) line) (k + 1) v u
+    sofar_sign c a u s e q m z h f g d = go (sign_of b) refl
       where
         more : l ≡ suc (l - 1)
         more = omega arith
@@ -680,27 +663,29 @@ module _ (line : List ℕ) (at left i l w k v : ℕ) (t : Bool) where
             ∙ ap (λ (y : List ℕ). reads (length line) ((l - 1) ∷ y) (drop (i + 2) line) (k + 1) v u) (sym r)
 
         go : (y : Sign) → sign_of b ≡ y → step_of (length line) (read_expr left (drop at line)) ≡ reads (length line) ((l - 1) ∷ levels (left - (l - 1)) (2 * w + c) (l - 1)) (drop (i + 2) line) (k + 1) v u
-        go (Leaf x) r = absurd (z (q ∙ ap places_of r))
+        go (Leaf x) r = absurd (z (some_eq (q ∙ ap places_of r)))
         go (Before o) r =
-            let none : c ≡ 0 = omega (arith, d, q ∙ ap places_of r) in
+            let one : p ≡ 1 = some_eq (q ∙ ap places_of r) in
+            let none : c ≡ 0 = omega arith in
             begin s ∙ reads_one (length line) (levels (left - l) w l) (drop i line) k v t (l - 1) o (ap sign_of (sym e) ∙ r) ∙ finish (levels (left - l) w l) (behind 0 none (omega arith))
         go (Between o) r =
-            let one : c ≡ 1 = omega (arith, d, q ∙ ap places_of r) in
+            let two : p ≡ 2 = some_eq (q ∙ ap places_of r) in
+            let one : c ≡ 1 = omega arith in
             begin s ∙ reads_two (length line) (levels (left - l) w l) (drop i line) k v t (l - 1) o (ap sign_of (sym e) ∙ r) ∙ finish ((l - 1) ∷ levels (left - l) w l) (behind 1 one (omega arith))
-        go NoSign r = absurd (n (q ∙ ap places_of r))
+        go NoSign r = absurd (a_sign b p q r)
 
-pub none_pending : (n : ℕ) → 0 < 2 ^ n
+none_pending : (n : ℕ) → 0 < 2 ^ n
 none_pending n = pow_pos n
 
 -- Nothing was read, and the whole is still to be read.
-pub sofar_begun : (line : List ℕ) (at left : ℕ) → Sofar line at left at left 0 0 0 false
+sofar_begun : (line : List ℕ) (at left : ℕ) → Sofar line at left at left 0 0 0 false
 unfolding levels
 sofar_begun line at left =
     sym (ap (λ (y : List ℕ). reads (length line) (left ∷ y) (drop at line) 0 0 false) (levels_none (left - left) left) ∙ reads_alone (length line) left (drop at line))
 
 -- ---- nodes stored
 
-pub length-nodes_of : (n : ℕ) (cs : List ℕ) → length (nodes_of n cs) ≡ n
+length-nodes_of : (n : ℕ) (cs : List ℕ) → length (nodes_of n cs) ≡ n
 unfolding nodes_of
 length-nodes_of zero cs = refl
 length-nodes_of (suc n) cs = ap suc (length-nodes_of n (drop 2 cs))
@@ -713,11 +698,11 @@ pub set_none : (l : List ℕ) (i x : ℕ) → length l ≤ i → l ≡ set l i x
 set_none l i x h = sym (set_out l i x h)
 
 module _ (line : List ℕ) (at used : ℕ) (was : List ℕ) where
-  pub kept_none : Kept line at used 0 was was
+  kept_none : Kept line at used 0 was was
   unfolding nodes_of
   kept_none = record { long = refl; nodes_are = λ h. sym (splice_nothing used was) }
 
-  pub kept_next : (n i b v : ℕ) (out now : List ℕ) → Kept line at used n was out → i ≡ at + 2 * n → b ≡ kind_of (drop i line) → v ≡ node_of b → now ≡ set out (used + n) v → Kept line at used (n + 1) was now
+  kept_next : (n i b v : ℕ) (out now : List ℕ) → Kept line at used n was out → i ≡ at + 2 * n → b ≡ kind_of (drop i line) → v ≡ node_of b → now ≡ set out (used + n) v → Kept line at used (n + 1) was now
   kept_next n i b v out now k e p q r = record { long = ap (λ (l : List ℕ). length l) r ∙ length-set out (used + n) v ∙ k.long; nodes_are = more }
     where
       more : used + (n + 1) ≤ length was → now ≡ splice used (nodes_of (n + 1) (drop at line)) was
@@ -733,3 +718,96 @@ module _ (line : List ℕ) (at used : ℕ) (was : List ℕ) where
           ∙ splice-splice used (nodes_of n (drop at line)) (v ∷ []) was (omega (arith, is))
           ∙ ap (λ (x : ℕ). splice used (nodes_of n (drop at line) ++ x ∷ []) was) node
           ∙ ap (λ (l : List ℕ). splice used l was) (sym (nodes_of_next n (drop at line)))
+
+-- ---- the reader at a pair
+
+-- What is so before each pair: what was read, what is still to be read, and the nodes kept.
+pub record Going (line : List ℕ) (at left used : ℕ) (was out rest : List ℕ) (l w k v : ℕ) (t : Bool) : Type 0 where
+  pub rest_is : rest ≡ drop (at + 2 * k) line
+  pub within : at + 2 * k ≤ length line
+  pub fewer : l ≤ left
+  pub small : w < 2 ^ (left - l)
+  pub kept : Kept line at used k was out
+  pub sofar : Sofar line at left (at + 2 * k) l w k v t
+
+module _ (line : List ℕ) (at left used : ℕ) (was : List ℕ) where
+  pub going_begun : (rest : List ℕ) → at ≤ length line → rest ≡ take (length line - at) (drop at line) → Going line at left used was was rest left 0 0 0 false
+  going_begun rest h e =
+      let all : rest ≡ drop at line = e ∙ ap (λ (n : ℕ). take n (drop at line)) (sym (length-drop at line)) ∙ take-length (drop at line) in
+      let here : at ≡ at + 2 * 0 = omega arith in
+      record {
+        rest_is = all ∙ ap (λ (n : ℕ). drop n line) here;
+        within = omega arith;
+        fewer = omega arith;
+        small = none_pending (left - left);
+        kept = kept_none line at used was;
+        sofar = subst (λ (n : ℕ). Sofar line at left n left 0 0 0 false) here (sofar_begun line at left);
+      }
+
+module _ {line : List ℕ} {at left used : ℕ} {was out rest : List ℕ} {l w k v : ℕ} {t : Bool} (g : Going line at left used was out rest l w k v t) where
+  pub going_over : length rest < 2 → Err (StopWrong (at + 2 * k)) ≡ step_of (length line) (read_expr left (drop at line))
+  going_over h = sofar_over line at left (at + 2 * k) l w k v t g.sofar g.within (omega (arith, ap (λ (x : List ℕ). length x) g.rest_is, length-drop (at + 2 * k) line))
+
+  module _ (two more : List ℕ) (e : rest ≡ two ++ more) (m : length two ≡ 2) where
+    kind_here : byte_of (get_or two 0 0) (get_or two 1 0) ≡ kind_of (drop (at + 2 * k) line)
+    kind_here = two_kind rest two more e m ∙ ap kind_of g.rest_is
+
+    pub going_room : at + 2 * k + 2 ≤ length line
+    going_room = omega (arith, g.within, ap (λ (x : List ℕ). length x) g.rest_is, length-drop (at + 2 * k) line, ap (λ (x : List ℕ). length x) e, length-append two more)
+
+    further : at + 2 * k + 2 ≡ at + 2 * (k + 1)
+    further = omega arith
+
+    more_is : more ≡ drop (at + 2 * (k + 1)) line
+    more_is =
+        sym (drop-append_seam two more)
+        ∙ ap (λ (n : ℕ). drop n (two ++ more)) m
+        ∙ ap (drop 2) (sym e ∙ g.rest_is)
+        ∙ drop-drop 2 (at + 2 * k) line
+        ∙ ap (λ (n : ℕ). drop n line) further
+
+    pub going_none : None ≡ pair_read (byte_of (get_or two 0 0) (get_or two 1 0)) → Err (StopWrong (at + 2 * k)) ≡ step_of (length line) (read_expr left (drop at line))
+    going_none q =
+        let high : 74 ≤ byte_of (get_or two 0 0) (get_or two 1 0) = omega (arith, none_below 256 (byte_of (get_or two 0 0) (get_or two 1 0)) q) in
+        sofar_wrong line at left (at + 2 * k) l w k v t (byte_of (get_or two 0 0) (get_or two 1 0)) 0 g.sofar g.within kind_here (places_none (byte_of (get_or two 0 0) (get_or two 1 0)) high)
+
+    module _ {b : ℕ} (q : Some b ≡ pair_read (byte_of (get_or two 0 0) (get_or two 1 0))) where
+      code_here : b ≡ kind_of (drop (at + 2 * k) line)
+      code_here = (some_below 256 (byte_of (get_or two 0 0) (get_or two 1 0)) b q).1 ∙ kind_here
+
+      pub going_wrong : None ≡ places_of (sign_of b) → Err (StopWrong (at + 2 * k)) ≡ step_of (length line) (read_expr left (drop at line))
+      going_wrong p = sofar_wrong line at left (at + 2 * k) l w k v t b 0 g.sofar g.within code_here p
+
+      module _ {o : ℕ} (p : Some o ≡ places_of (sign_of b)) where
+        pub going_deep : l ≡ 0 → Err (StopDeep (at + 2 * k)) ≡ step_of (length line) (read_expr left (drop at line))
+        going_deep z = sofar_deep line at left (at + 2 * k) l w k v t b o g.sofar g.within code_here p z
+
+        module _ {node : ℕ} {now : List ℕ} (nd : node ≡ node_of b) (st : now ≡ set out (used + k) node) (nz : l ≡ 0 → ⊥) where
+          pub going_kept : Kept line at used (k + 1) was now
+          going_kept = kept_next line at used was k (at + 2 * k) b node out now g.kept refl code_here nd st
+
+          module _ (leaf : o ≡ 0) {x u : ℕ} (xl : x ≡ leaf_vars b) (us : u ≡ union v x) where
+            pub going_whole : w ≡ 0 → whole_step (at + 2 * (k + 1)) (k + 1) u t ≡ step_of (length line) (read_expr left (drop at line))
+            going_whole wz = ap (λ (n : ℕ). whole_step n (k + 1) u t) (sym further) ∙ sofar_whole line at left (at + 2 * k) l w k v t b o x u g.sofar (omega (arith, going_room)) code_here p nz leaf xl us wz
+
+            pub going_leaf : {z : ℕ} → left ≤ 64 → (w ≡ 0 → ⊥) → z ≡ lowest_of w → Going line at left used was now more (l + z) (w / 2 ^ z - 1) (k + 1) u t
+            going_leaf {z = z} few wn ze =
+                record {
+                  rest_is = more_is;
+                  within = omega (arith, going_room);
+                  fewer = comes_near line at left (at + 2 * k) l w k v t b o z g.fewer few g.small wn ze;
+                  small = comes_less line at left (at + 2 * k) l w k v t b o z g.fewer few g.small wn ze;
+                  kept = going_kept;
+                  sofar = subst (λ (n : ℕ). Sofar line at left n (l + z) (w / 2 ^ z - 1) (k + 1) u t) further (sofar_leaf line at left (at + 2 * k) l w k v t b o z x u g.sofar code_here p nz leaf xl us g.fewer few g.small wn ze);
+                }
+
+          pub going_sign : {c : ℕ} {u : Bool} → (o ≡ 0 → ⊥) → u ≡ (leb 69 b || t) → c ≡ o - 1 → Going line at left used was now more (l - 1) (2 * w + c) (k + 1) v u
+          going_sign {c = c} {u = u} on ue ce =
+              record {
+                rest_is = more_is;
+                within = omega (arith, going_room);
+                fewer = omega (arith, g.fewer);
+                small = sofar_less line at left (at + 2 * k) l w k v t b o c g.fewer nz g.small p on ce;
+                kept = going_kept;
+                sofar = subst (λ (n : ℕ). Sofar line at left n (l - 1) (2 * w + c) (k + 1) v u) further (sofar_sign line at left (at + 2 * k) l w k v t b o c (leb 69 b) u g.sofar code_here p nz on g.fewer refl ue ce);
+              }

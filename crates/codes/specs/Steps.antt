@@ -1,28 +1,35 @@
 -- What the reader of one expression answers.
-use Rattle.std.specs.Prelude.{◌≡◌, true, false, List, [], ◌∷◌, ℕ, zero, suc, ◌+◌, ◌-◌, ◌≤◌, ltb, length, drop}
+use Rattle.std.specs.Prelude.{◌≡◌, true, false, Option, Some, None, Result, Ok, Err, List, [], ◌∷◌, ℕ, zero, suc, ◌+◌, ◌-◌, ◌≤◌, ltb, length, drop}
 use Rattle.lists.specs.Lists.{splice}
 use Rattle.sets.specs.Sets.{only}
 use Rattle.logic.specs.Expressions.{nodes, written, temporal}
 use Rattle.frames.specs.Read.{Sign, Leaf, Before, Between, NoSign, kind_of}
 use Rattle.decks.specs.Readings.{Reading, Whole, Wrong, Deep}
-use Rattle.codes.specs.declared.Step.{Step}
+use Rattle.codes.specs.declared.Read.{Read}
+use Rattle.codes.specs.declared.Stop.{Stop}
+use Rattle.codes.specs.declared.Stop.TheVariants.{Wrong as StopWrong, Deep as StopDeep}
 
--- How many operands a sign has; 3 for none.
-abbrev pub places_of : Sign → ℕ
-places_of (Leaf e) = 0
-places_of (Before o) = 1
-places_of (Between o) = 2
-places_of NoSign = 3
+-- How many operands a sign has.
+abbrev pub places_of : Sign → Option ℕ
+places_of (Leaf e) = Some 0
+places_of (Before o) = Some 1
+places_of (Between o) = Some 2
+places_of NoSign = None
 
 -- The variable that a code is, as a set; nothing for any other code.
 unfoldable pub leaf_vars : ℕ → ℕ
 leaf_vars b = elim (ltb b 64) [ true ↦ only b | false ↦ 0 ]
 
--- How the reading of an expression stopped, in a line of n characters: whole 0, wrong 1, at level 33 2; and where what is left begins.
-abbrev pub step_of : ℕ → Reading → Step
-step_of n (Whole e cs) = record { stop = 0; next = n - length cs; nodes = nodes e; vars = written e; temporal = temporal e }
-step_of n (Wrong cs) = record { stop = 1; next = n - length cs; nodes = 0; vars = 0; temporal = false }
-step_of n (Deep cs) = record { stop = 2; next = n - length cs; nodes = 0; vars = 0; temporal = false }
+-- What the reading of an expression comes to, in a line of n characters: what is written in it and where what stands behind it begins, or where it stopped.
+abbrev pub step_of : ℕ → Reading → Result Read Stop
+step_of n (Whole e cs) = Ok (record { written = record { nodes = nodes e; vars = written e; temporal = temporal e }; next = n - length cs })
+step_of n (Wrong cs) = Err (StopWrong (n - length cs))
+step_of n (Deep cs) = Err (StopDeep (n - length cs))
+
+-- The place where it stopped.
+abbrev pub place_of : Stop → ℕ
+place_of (StopWrong i) = i
+place_of (StopDeep i) = i
 
 -- The node of a code.
 unfoldable pub node_of : ℕ → ℕ

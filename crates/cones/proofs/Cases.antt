@@ -6,27 +6,28 @@ use lib.Count.{ones, ones_in, count_trailing_zeros}
 use Rattle.logic.specs.Expressions.{Var, One, Not, written}
 use Rattle.logic.specs.Cones.{grown, passes, cone}
 use Rattle.logic.proofs.Cases.{worked}
-use Rattle.decks.specs.declared.Answer.TheVariants.{Fine, Outside}
+use Rattle.std.specs.Prelude.{Ok, Err}
+use Rattle.decks.specs.declared.Refusal.TheVariants.{Outside}
 use Rattle.cones.specs.Dependencies.{depends_on, rows, table}
 use Rattle.cones.specs.Cone.{cone_read}
 
 -- Cone of {V1} is {V0, V1}, size 2.
-pub cone_of_v1 : cone_read worked 2 ≡ record { answer = Fine; set = 3; size = 2 }
+pub cone_of_v1 : cone_read worked 2 ≡ Ok (record { set = 3; size = 2 })
 unfolding cone_read cone passes grown written ones ones_in
 cone_of_v1 = refl
 
 -- Cone of {V3} is {V2, V3}.
-pub cone_of_v3 : cone_read worked 8 ≡ record { answer = Fine; set = 12; size = 2 }
+pub cone_of_v3 : cone_read worked 8 ≡ Ok (record { set = 12; size = 2 })
 unfolding cone_read cone passes grown written ones ones_in
 cone_of_v3 = refl
 
 -- Of nothing, nothing.
-pub cone_of_none : cone_read worked 0 ≡ record { answer = Fine; set = 0; size = 0 }
+pub cone_of_none : cone_read worked 0 ≡ Ok (record { set = 0; size = 0 })
 unfolding cone_read cone passes grown written ones ones_in
 cone_of_none = refl
 
 -- V1, V4 and V6: 9 names V4.
-pub cone_outside : cone_read worked 82 ≡ record { answer = Outside 0 4; set = 0; size = 0 }
+pub cone_outside : cone_read worked 82 ≡ Err (Outside 0 4)
 unfolding cone_read count_trailing_zeros
 cone_outside = refl
 

@@ -1,5 +1,5 @@
 pub mod Equations
 pub mod Table
 pub mod Reaching
-pub mod Answers
+pub mod Answered
 pub mod Cases

@@ -8,7 +8,7 @@ use lib.ListN.{length, get_or}
 use lib.Count.{ones-le}
 use Rattle.lists.proofs.Laws.{each_all}
 use Rattle.sets.specs.Sets.{◌∋◌, ◌⊆◌, only, union, without, size, lowest_of, width}
-use Rattle.sets.proofs.Laws.{bit_zero, bit-union, bit_or_zero, subset_refl, subset_trans, subset_antisym, union_left, union_right, union-least, only-bit, only-least, only-within, without-left, without_out, without_subset, without_lt, member_lt, size_new, lowest_found, nothing_within}
+use Rattle.sets.proofs.Laws.{bit-union, bit_or_zero, subset_trans, subset_antisym, union_left, union_right, union-least, only-bit, only-least, only-within, without-left, without_out, without_subset, without_lt, member_lt, size_new, lowest_found}
 use Rattle.logic.specs.Expressions.{written}
 use Rattle.logic.specs.Decks.{Equation, base}
 use Rattle.logic.specs.Cones.{Closed, cone}
@@ -26,9 +26,6 @@ pub record Reaching (deps : List ℕ) (s reached visited : ℕ) : Type 0 where
   pub must : (t : ℕ) → s ⊆ t → Follows deps t → reached ⊆ t
   pub seen : visited ⊆ reached
   pub followed : (v : ℕ) → visited ∋ v → get_or deps v 0 ⊆ reached
-
-pub reaching_starts : (deps : List ℕ) (s : ℕ) → Reaching deps s s 0
-reaching_starts deps s = record { holds = subset_refl s; must = λ t f c. f; seen = nothing_within s; followed = λ v z. absurd (omega (arith, z, bit_zero v)) }
 
 -- A variable reached is visited: its set is reached too.
 reaching_visits : (deps : List ℕ) (s reached visited v : ℕ) → reached ∋ v → Reaching deps s reached visited → Reaching deps s (union reached (get_or deps v 0)) (union visited (only v))

@@ -2,13 +2,13 @@
 use mathlib.Core.Path.{◌≡◌, refl, sym, ap, ap₂, ◌∙◌}
 use mathlib.Core.Logic.{inl, inr, by_cases}
 use mathlib.Core.List.{List, [], ◌∷◌}
-use Prim.Native.Nat.{ℕ, zero, suc, ◌+◌, ◌<◌, ◌≤◌}
+use Prim.Native.Nat.{ℕ, zero, suc, ◌+◌, ◌-◌, ◌<◌, ◌≤◌, min}
 use native.Mathlib.Omega.{arith}
 use native.Mathlib.Nat.{zero-add}
 use native.Mathlib.Decide.{ℕ_discrete, dec_lt}
 use borrow.Author.Tests.{eq-eqb, ne_eqb}
-use lib.ListN.{length, take, drop, get_or, set, replicate, length-set, length-replicate, get_or-replicate, drop_of_length-le, get_or-eq_default}
-use lib.Seq.{get_or-set_same, get_or-set_other, ext_get_or}
+use lib.ListN.{length, take, drop, get_or, set, replicate, length-take, length-set, length-replicate, get_or-replicate, drop_of_length-le, get_or-eq_default}
+use lib.Seq.{get_or-take, get_or-set_same, get_or-set_other, ext_get_or}
 use lib.Bits.{or_zero_l, or_zero_r}
 use Rattle.lists.specs.Lists.{◌among◌, part}
 use Rattle.sets.specs.Sets.{◌∋◌, ◌⊆◌, union}
@@ -121,6 +121,19 @@ table_filled qs =
     ∙ or_zero_l (depends_on qs v)
     ))
 
+-- This turn's equation: it is one of the first n, and its variable and its end stand in the rows.
+pub record Turn (lefts ends : List ℕ) (n i left end : ℕ) : Type 0 where
+  pub here : i < n
+  pub left_is : left ≡ get_or lefts i 0
+  pub end_is : end ≡ get_or ends i 0
+
+pub turn : (lefts ends : List ℕ) (n i left end : ℕ)
+    → (i < length (take n lefts)) × (i < length (take n ends)) × ((d : ℕ) → left ≡ get_or (take n lefts) i d) × ((d : ℕ) → end ≡ get_or (take n ends) i d)
+    → Turn lefts ends n i left end
+turn lefts ends n i left end h =
+    let here : i < n = omega (arith, h.0, length-take n lefts) in
+    record { here = here; left_is = h.2 0 ∙ get_or-take n lefts i 0 here; end_is = h.3 0 ∙ get_or-take n ends i 0 here }
+
 -- Where the filling stands: the equations before i are in the table, and the nodes of equation i begin at `from`.
 pub record Filling (lefts ends cs : List ℕ) (n : ℕ) (deps : List ℕ) (i from : ℕ) : Type 0 where
   pub places : length deps ≡ base.variables
@@ -132,9 +145,11 @@ module _ (lefts ends cs : List ℕ) (n : ℕ) where
   unfolding total_nodes
   filling_starts deps e = rw e (record { places = length-replicate {A = ℕ} base.variables 0; begins = λ qs g. refl; all = λ qs g. table_filled qs })
 
-  pub filling_ends : (deps : List ℕ) (i from : ℕ) (qs : List Equation) → n ≤ i → Filling lefts ends cs n deps i from → Given qs lefts ends cs n → deps ≡ table qs
+  -- As many turns as both rows have places among the first n are those of all equations.
+  pub filling_ends : (deps : List ℕ) (i from : ℕ) (qs : List Equation) → i ≡ min (length (take n lefts)) (length (take n ends)) → Filling lefts ends cs n deps i from → Given qs lefts ends cs n → deps ≡ table qs
   unfolding with_equations
-  filling_ends deps i from qs h f g =
+  filling_ends deps i from qs e f g =
+      let all : n ≤ i = by_cases (dec_lt 0 n) (λ h. let last : n - 1 < n = omega arith in omega (arith, length-take n lefts, length-take n ends, left-within qs lefts ends cs n (n - 1) g.held last, end_within qs lefts ends cs n (n - 1) g.held last)) (λ z. omega arith) in
       sym (f.all qs g ∙ ap (λ (l : List Equation). with_equations l deps) (drop_of_length-le qs {i = i} (omega (arith, g.held.count_is))))
 
   module _ (i : ℕ) (h : i < n) where
@@ -166,15 +181,15 @@ module _ (lefts ends cs : List ℕ) (n : ℕ) where
           ∙ ap₂ (λ (a b : ℕ). variables_of (part a b cs)) (f.begins qs g) (end_its end e ∙ next_end qs lefts ends cs n i g.held h)
           ∙ stands-written cs (total_nodes (take i qs)) right fits (right-stands qs lefts ends cs n i g.held h (below_more base.variables 256 right (omega arith) fits))
 
-      all_next : (deps deps' : List ℕ) (from v end more : ℕ) → Filling lefts ends cs n deps i from → v ≡ get_or lefts i 0 → end ≡ get_or ends i 0 → more ≡ variables_of (part from end cs) → deps' ≡ set deps v (union (get_or deps v 0) more) → table qs ≡ with_equations (drop (i + 1) qs) deps'
+      all_next : (deps : List ℕ) (from v end more its : ℕ) → Filling lefts ends cs n deps i from → v ≡ get_or lefts i 0 → end ≡ get_or ends i 0 → more ≡ variables_of (part from end cs) → its ≡ union (get_or deps v 0) more → table qs ≡ with_equations (drop (i + 1) qs) (set deps v its)
       unfolding with_equations
-      all_next deps deps' from v end more f p e m d =
+      all_next deps from v end more its f p e m d =
           f.all qs g ∙ ap (λ (l : List Equation). with_equations l deps) (next_equation qs lefts ends cs n i g.held h) ∙ rw (d, written_here deps from end more f e m, left-its v p) refl
 
-    pub filling_next : (deps deps' : List ℕ) (from v end more : ℕ) → Filling lefts ends cs n deps i from → v ≡ get_or lefts i 0 → end ≡ get_or ends i 0 → more ≡ variables_of (part from end cs) → deps' ≡ set deps v (union (get_or deps v 0) more) → Filling lefts ends cs n deps' (i + 1) end
-    filling_next deps deps' from v end more f p e m d =
+    pub filling_next : (deps : List ℕ) (from v end more its : ℕ) → Filling lefts ends cs n deps i from → v ≡ get_or lefts i 0 → end ≡ get_or ends i 0 → more ≡ variables_of (part from end cs) → its ≡ union (get_or deps v 0) more → Filling lefts ends cs n (set deps v its) (i + 1) end
+    filling_next deps from v end more its f p e m d =
         record {
-          places = rw d (length-set deps v (union (get_or deps v 0) more) ∙ f.places);
+          places = length-set deps v its ∙ f.places;
           begins = λ qs g. end_its qs g end e;
-          all = λ qs g. all_next qs g deps deps' from v end more f p e m d;
+          all = λ qs g. all_next qs g deps from v end more its f p e m d;
         }

@@ -1,15 +1,13 @@
 -- Laws of the places of conjuncts.
-use mathlib.Core.Path.{◌≡◌, refl, sym, ap, ap₂, ◌∙◌, subst}
+use mathlib.Core.Path.{◌≡◌, refl, sym, ap, ◌∙◌, subst}
 use mathlib.Core.Bool.{true, false}
-use mathlib.Core.List.{List, [], ◌∷◌, ◌++◌}
-use Prim.Native.Nat.{ℕ, zero, suc, ◌+◌, ◌-◌, ◌*◌, ◌/◌, ◌<◌, ◌≤◌}
+use mathlib.Core.List.{List, [], ◌∷◌, ◌++◌, append_assoc}
+use Prim.Native.Nat.{ℕ, zero, suc, ◌+◌, ◌-◌, ◌*◌, ◌<◌, ◌≤◌}
 use native.Mathlib.Omega.{arith}
-use mir.Val.{Fits}
-use mir.Syntax.{w64}
+use native.Mathlib.Numerals.{add-one}
 use lib.ListN.{length, take, drop, get_or, set, length-append, length-take, length-drop}
-use lib.Seq.{take_at, drop_at, take_all}
-use Rattle.lists.specs.Lists.{splice, part}
-use Rattle.lists.proofs.Laws.{set-splice, splice-splice, length-splice}
+use lib.Seq.{take_at, drop_at, take_all, take-suc-set}
+use Rattle.lists.specs.Lists.{part}
 use Rattle.logic.specs.Expressions.{Expr, Const, Var, One, Two, Not, Next, Future, Always, And, Or, Until, Weak, nodes, Narrow}
 use Rattle.logic.specs.Expressions as Expressions
 use Rattle.logic.specs.Pieces.{split}
@@ -17,11 +15,12 @@ use Rattle.logic.proofs.Codes.{nodes-some, length-code}
 use Rattle.terms.specs.Nodes.{spans, Stands}
 use Rattle.terms.proofs.Laws.{spans_none}
 use Rattle.terms.proofs.Trees.{spans-code, stands-within, stands-first, stands-second, part-code}
-use Rattle.conjuncts.specs.Conjuncts.{whole, bounds, Coded, Bounded}
+use Rattle.conjuncts.specs.declared.Span.{Span}
+use Rattle.conjuncts.specs.Conjuncts.{whole, bounds, Coded, Bounded, no_span}
 
--- ---- how many places
+-- ---- how many conjuncts
 
-pub length-bounds : (n : ℕ) (e : Expr) → length (bounds n e) ≡ 2 * length (split e)
+pub length-bounds : (n : ℕ) (e : Expr) → length (bounds n e) ≡ length (split e)
 unfolding bounds split
 length-bounds n (Const b) = refl
 length-bounds n (Var v) = refl
@@ -77,17 +76,11 @@ is_joined (Two Or a b) n h = absurd (omega (arith, h))
 is_joined (Two Until a b) n h = absurd (omega (arith, h))
 is_joined (Two Weak a b) n h = absurd (omega (arith, h))
 
-module _ (code : List ℕ) (offset : ℕ) (row : List ℕ) (used : ℕ) where
-  pub code-some : (e : Expr) → Coded e code offset row used → 0 < length code
+module _ (code : List ℕ) (offset : ℕ) (held : List Span) (most : ℕ) where
+  pub code-some : (e : Expr) → Coded e code offset held most → 0 < length code
   code-some e c = omega (arith, ap length c.is_code, length-code e, nodes-some e)
 
-  pub offset_fits : (e : Expr) → Coded e code offset row used → offset < 65536
-  offset_fits e c = omega (arith, c.fits)
-
-  pub place_fits : (e : Expr) → Coded e code offset row used → offset + length code < 65536
-  place_fits e c = c.fits
-
-  bounds-some : (n : ℕ) (e : Expr) → 2 ≤ length (bounds n e)
+  bounds-some : (n : ℕ) (e : Expr) → 1 ≤ length (bounds n e)
   unfolding bounds
   bounds-some n (Const b) = omega arith
   bounds-some n (Var v) = omega arith
@@ -97,35 +90,20 @@ module _ (code : List ℕ) (offset : ℕ) (row : List ℕ) (used : ℕ) where
   bounds-some n (Two Until a b) = omega arith
   bounds-some n (Two Weak a b) = omega arith
 
-  pub one_more : (e : Expr) → Coded e code offset row used → used < length row
+  one_more : (e : Expr) → Coded e code offset held most → length held < most
   one_more e c = omega (arith, c.room, bounds-some offset e)
 
-  pub two_more : (e : Expr) → Coded e code offset row used → used + 1 < length row
-  two_more e c = omega (arith, c.room, bounds-some offset e)
-
-  module _ (e : Expr) (c : Coded e code offset row used) where
+  module _ (e : Expr) (c : Coded e code offset held most) where
     head_node_lem : (x : ℕ) → get_or code 0 0 ≡ x → get_or (Expressions.code e) 0 0 ≡ x
     head_node_lem x h = sym (ap (λ (l : List ℕ). get_or l 0 0) c.is_code) ∙ h
 
-    module _ (n : get_or code 0 0 ≡ 259 → ⊥) where
-      whole-bounds : bounds offset e ≡ offset ∷ (offset + length code) ∷ []
-      whole-bounds =
-          let size : nodes e ≡ length code = sym (ap length c.is_code ∙ length-code e) in
-          stands-whole offset e (λ h. n (ap (λ (l : List ℕ). get_or l 0 0) c.is_code ∙ h)) ∙ ap (λ (k : ℕ). offset ∷ (offset + k) ∷ []) size
-
-      pub whole_counted : used + 2 ≡ used + length (bounds offset e)
-      whole_counted = ap (λ (l : List ℕ). used + length l) (sym whole-bounds)
-
-      pub whole_wrote : (x y : List ℕ) → x ≡ set row used offset → y ≡ set x (used + 1) (offset + length code) → y ≡ splice used (bounds offset e) row
-      whole_wrote x y p q =
-          let room : used + 1 < length row = two_more e c in
-          let first : x ≡ splice used (offset ∷ []) row = p ∙ set-splice row used offset (omega arith) in
-          let long : length x ≡ length row = ap length first ∙ length-splice used (offset ∷ []) row (omega arith) in
-          q
-          ∙ set-splice x (used + 1) (offset + length code) (omega (arith, long))
-          ∙ ap (splice (used + 1) ((offset + length code) ∷ [])) first
-          ∙ splice-splice used (offset ∷ []) ((offset + length code) ∷ []) row (omega arith)
-          ∙ ap (λ (l : List ℕ). splice used l row) (sym whole-bounds)
+    -- A property that stands whole is one span more.
+    whole_held : (get_or code 0 0 ≡ 259 → ⊥) → held ++ record { from = offset; to = offset + length code } ∷ [] ≡ held ++ bounds offset e
+    whole_held n =
+        let size : nodes e ≡ length code = sym (ap length c.is_code ∙ length-code e) in
+        ap
+        (λ (l : List Span). held ++ l)
+        (sym (stands-whole offset e (λ h. n (ap (λ (l : List ℕ). get_or l 0 0) c.is_code ∙ h)) ∙ ap (λ (k : ℕ). record { from = offset; to = offset + k } ∷ []) size))
 
   -- The two operands of an `&`, each in its part of the code.
   module _ (h : get_or code 0 0 ≡ 259) (m : ℕ) (q : m ≡ 0 + 1 + spans 1 (drop (0 + 1) code)) where
@@ -140,7 +118,7 @@ module _ (code : List ℕ) (offset : ℕ) (row : List ℕ) (used : ℕ) where
       pub left : take (m - 1) (drop 1 code) ≡ Expressions.code a
       pub right : take (length code - m) (drop m code) ≡ Expressions.code b
 
-    halves : (e : Expr) → Coded e code offset row used → Halves e
+    halves : (e : Expr) → Coded e code offset held most → Halves e
     unfolding Expressions.code
     halves e c = go (is_joined e c.narrow (head_node_lem e c 259 h))
       where
@@ -171,32 +149,23 @@ module _ (code : List ℕ) (offset : ℕ) (row : List ℕ) (used : ℕ) where
               right = take_all (length code - m) (drop m code) (omega (arith, length-drop m code)) ∙ rest;
             }
 
-    both_bounds : (e : Expr) (c : Coded e code offset row used) → bounds offset e ≡ bounds (offset + 1) (halves e c).a ++ bounds (offset + m) (halves e c).b
+    both_bounds : (e : Expr) (c : Coded e code offset held most) → bounds offset e ≡ bounds (offset + 1) (halves e c).a ++ bounds (offset + m) (halves e c).b
     unfolding bounds
     both_bounds e c =
         let s : Halves e = halves e c in
         let at : offset + 1 + nodes s.a ≡ offset + m = omega (arith, s.middle) in
         ap (bounds offset) s.joins ∙ ap (λ (k : ℕ). bounds (offset + 1) s.a ++ bounds k s.b) at
 
-    pub second-behind : 1 ≤ m
-    second-behind = omega (arith, q)
-
-    pub second-within : (e : Expr) → Coded e code offset row used → m ≤ length code
+    pub second-within : (e : Expr) → Coded e code offset held most → m ≤ length code
     second-within e c = let s : Halves e = halves e c in omega (arith, s.middle, s.ends)
 
-    pub first_falls : (t : ℕ) (e : Expr) → Coded e code offset row used → length code ≡ t → length (take (m - 1) (drop 1 code)) < t
+    pub first_falls : (t : ℕ) (e : Expr) → Coded e code offset held most → length code ≡ t → length (take (m - 1) (drop 1 code)) < t
     first_falls t e c z = omega (arith, length-take (m - 1) (drop 1 code), length-drop 1 code, code-some e c)
 
-    pub second_falls : (t : ℕ) (e : Expr) → Coded e code offset row used → length code ≡ t → length (take (length code - m) (drop m code)) < t
+    pub second_falls : (t : ℕ) (e : Expr) → Coded e code offset held most → length code ≡ t → length (take (length code - m) (drop m code)) < t
     second_falls t e c z = omega (arith, length-take (length code - m) (drop m code), length-drop m code, code-some e c, q)
 
-    pub twice_fits : (e : Expr) → Coded e code offset row used → Fits w64 (m * 2)
-    twice_fits e c = omega (arith, c.fits, second-within e c)
-
-    pub second_fits : (e : Expr) → Coded e code offset row used → Fits w64 (offset + m)
-    second_fits e c = omega (arith, c.fits, second-within e c)
-
-    first_coded : (e : Expr) (c : Coded e code offset row used) → Coded (halves e c).a (take (m - 1) (drop 1 code)) (offset + 1) row used
+    first_coded : (e : Expr) (c : Coded e code offset held most) → Coded (halves e c).a (take (m - 1) (drop 1 code)) (offset + 1) held most
     first_coded e c =
         let s : Halves e = halves e c in
         record {
@@ -206,74 +175,61 @@ module _ (code : List ℕ) (offset : ℕ) (row : List ℕ) (used : ℕ) where
           room = omega (arith, c.room, ap length (both_bounds e c), length-append (bounds (offset + 1) s.a) (bounds (offset + m) s.b));
         }
 
-    pub first_some : (e : Expr) → Coded e code offset row used → (a : Expr) × Coded a (take (m - 1) (drop 1 code)) (offset + 1) row used
+    pub first_some : (e : Expr) → Coded e code offset held most → (a : Expr) × Coded a (take (m - 1) (drop 1 code)) (offset + 1) held most
     first_some e c = ((halves e c).a, first_coded e c)
 
-    -- After the split of the first operand.
-    module _ (n : ℕ) (x : List ℕ)
-        (f : (a : Expr) → Coded a (take (m - 1) (drop 1 code)) (offset + 1) row used → (n ≡ used + length (bounds (offset + 1) a)) × (x ≡ splice used (bounds (offset + 1) a) row)) where
-      second_coded : (e : Expr) (c : Coded e code offset row used) → Coded (halves e c).b (take (length code - m) (drop m code)) (offset + m) x n
+    -- After the split of the first operand, which leaves the room as it was.
+    module _ (more : List Span) (room : ℕ) (same : room ≡ most) (f : (a : Expr) → Coded a (take (m - 1) (drop 1 code)) (offset + 1) held most → more ≡ held ++ bounds (offset + 1) a) where
+      second_coded : (e : Expr) (c : Coded e code offset held most) → Coded (halves e c).b (take (length code - m) (drop m code)) (offset + m) more room
       second_coded e c =
           let s : Halves e = halves e c in
-          let done = f s.a (first_coded e c) in
+          let done : more ≡ held ++ bounds (offset + 1) s.a = f s.a (first_coded e c) in
           let all = length-append (bounds (offset + 1) s.a) (bounds (offset + m) s.b) in
-          let room : used + length (bounds (offset + 1) s.a) + length (bounds (offset + m) s.b) ≤ length row = omega (arith, c.room, ap length (both_bounds e c), all) in
           record {
             narrow = s.narrow_b;
             is_code = s.right;
             fits = omega (arith, c.fits, ap length s.right, length-code s.b, s.ends, s.middle);
-            room = omega (arith, room, done.0, ap length done.1, length-splice used (bounds (offset + 1) s.a) row (omega (arith, room)));
+            room = omega (arith, c.room, same, ap length (both_bounds e c), all, ap length done, length-append held (bounds (offset + 1) s.a));
           }
 
-      pub second-some : (e : Expr) → Coded e code offset row used → (b : Expr) × Coded b (take (length code - m) (drop m code)) (offset + m) x n
+      pub second-some : (e : Expr) → Coded e code offset held most → (b : Expr) × Coded b (take (length code - m) (drop m code)) (offset + m) more room
       second-some e c = ((halves e c).b, second_coded e c)
 
-      module _ (r : ℕ) (y : List ℕ)
-          (g : (b : Expr) → Coded b (take (length code - m) (drop m code)) (offset + m) x n → (r ≡ n + length (bounds (offset + m) b)) × (y ≡ splice n (bounds (offset + m) b) x)) where
-        pub both_split : (e : Expr) → Coded e code offset row used → (r ≡ used + length (bounds offset e)) × (y ≡ splice used (bounds offset e) row)
-        both_split e c =
-            let s : Halves e = halves e c in
-            let xs : List ℕ = bounds (offset + 1) s.a in
-            let zs : List ℕ = bounds (offset + m) s.b in
-            let done = f s.a (first_coded e c) in
-            let last = g s.b (second_coded e c) in (
-              omega (arith, last.0, done.0, ap length (both_bounds e c), length-append xs zs),
-              last.1
-                  ∙ ap (λ (k : ℕ). splice k zs x) done.0
-                  ∙ ap (splice (used + length xs) zs) done.1
-                  ∙ splice-splice used xs zs row (omega (arith, c.room))
-                  ∙ ap (λ (l : List ℕ). splice used l row) (sym (both_bounds e c)),
-            )
+      pub both_split : (last : List Span)
+          → ((b : Expr) → Coded b (take (length code - m) (drop m code)) (offset + m) more room → last ≡ more ++ bounds (offset + m) b)
+          → (e : Expr) → Coded e code offset held most → last ≡ held ++ bounds offset e
+      both_split last g e c =
+          let s : Halves e = halves e c in
+          g s.b (second_coded e c)
+          ∙ ap (λ (l : List Span). l ++ bounds (offset + m) s.b) (f s.a (first_coded e c))
+          ∙ append_assoc held (bounds (offset + 1) s.a) (bounds (offset + m) s.b)
+          ∙ ap (λ (l : List Span). held ++ l) (sym (both_bounds e c))
 
--- ---- a whole property
+-- ---- in a row
 
-pub length-first : (n : ℕ) (l : List ℕ) → n ≤ length l → n ≡ length (take n l)
-length-first n l h = omega (arith, length-take n l)
+module _ (code : List ℕ) (offset : ℕ) (row : List Span) (count : ℕ) (few : count ≤ length row) (e : Expr) (c : Coded e code offset (take count row) (length row)) where
+  pub place-there : count < length row
+  place-there = omega (arith, few, length-take count row, one_more code offset (take count row) (length row) e c)
 
-pub split_counted : (l row x : List ℕ) (r : ℕ)
-    → ((e : Expr) → Coded e l 0 row 0 → (r ≡ 0 + length (bounds 0 e)) × (x ≡ splice 0 (bounds 0 e) row))
-    → (e : Expr) → Coded e l 0 row 0 → (r / 2 ≡ length (split e)) × (x ≡ splice 0 (bounds 0 e) row)
-split_counted l row x r f e c = (omega (arith, (f e c).0, length-bounds 0 e), (f e c).1)
+  pub whole_taken : (get_or code 0 0 ≡ 259 → ⊥) → take (count + 1) (set row count (record { from = offset; to = offset + length code })) ≡ take count row ++ bounds offset e
+  whole_taken n =
+      let s : Span = record { from = offset; to = offset + length code } in
+      ap (λ (k : ℕ). take k (set row count s)) (add-one count)
+      ∙ take-suc-set row count s place-there
+      ∙ whole_held code offset (take count row) (length row) e c n
 
--- ---- what the places bound
+-- ---- what the spans bound
 
-bounded_more : (l ps qs : List ℕ) (es : List Expr) → Bounded l ps es → Bounded l (ps ++ qs) es
-bounded_more l (p ∷ []) qs (e ∷ es) b = elim b [ ]
-bounded_more l [] qs (e ∷ es) b = elim b [ ]
-bounded_more l ps qs [] b = tt
-bounded_more l (p ∷ q ∷ ps) qs (e ∷ es) b = (b.0, bounded_more l ps qs es b.1)
-
-bounded_append : (l ps qs : List ℕ) (es fs : List Expr) → length ps ≡ 2 * length es → Bounded l ps es → Bounded l qs fs → Bounded l (ps ++ qs) (es ++ fs)
-bounded_append l (p ∷ []) qs (e ∷ es) fs n b c = elim b [ ]
-bounded_append l [] qs (e ∷ es) fs n b c = elim b [ ]
-bounded_append l [] qs [] fs n b c = c
-bounded_append l (p ∷ ps) qs [] fs n b c = absurd (omega arith)
-bounded_append l (p ∷ q ∷ ps) qs (e ∷ es) fs n b c = (b.0, bounded_append l ps qs es fs (omega (arith, n)) b.1 c)
+bounded_append : (l : List ℕ) (ss ts : List Span) (es fs : List Expr) → length ss ≡ length es → Bounded l ss es → Bounded l ts fs → Bounded l (ss ++ ts) (es ++ fs)
+bounded_append l [] ts (e ∷ es) fs n b c = elim b [ ]
+bounded_append l [] ts [] fs n b c = c
+bounded_append l (s ∷ ss) ts [] fs n b c = absurd (omega arith)
+bounded_append l (s ∷ ss) ts (e ∷ es) fs n b c = (b.0, bounded_append l ss ts es fs (omega (arith, n)) b.1 c)
 
 stands_bounded : (l : List ℕ) (n : ℕ) (e : Expr) → Stands l n e → (n ≤ n + nodes e) × (n + nodes e ≤ length l) × (part n (n + nodes e) l ≡ Expressions.code e)
 stands_bounded l n e s = (omega arith, stands-within l n e s, part-code l n e s)
 
--- In nodes where the property's code stands the places bound the codes of its conjuncts.
+-- In nodes where the property's code stands the spans bound the codes of its conjuncts.
 pub bounds_bounded : (l : List ℕ) (n : ℕ) (e : Expr) → Stands l n e → Bounded l (bounds n e) (split e)
 unfolding bounds split
 bounds_bounded l n (Const b) s = (stands_bounded l n (Const b) s, tt)
@@ -287,30 +243,16 @@ bounds_bounded l n (Two Or a b) s = (stands_bounded l n (Two Or a b) s, tt)
 bounds_bounded l n (Two Until a b) s = (stands_bounded l n (Two Until a b) s, tt)
 bounds_bounded l n (Two Weak a b) s = (stands_bounded l n (Two Weak a b) s, tt)
 
-pub row_bounded : (l row x : List ℕ) (e : Expr) → Stands l 0 e → x ≡ splice 0 (bounds 0 e) row → Bounded l x (split e)
-row_bounded l row x e s q = subst (λ (ps : List ℕ). Bounded l ps (split e)) (sym q) (bounded_more l (bounds 0 e) (drop (0 + length (bounds 0 e)) row) (split e) (bounds_bounded l 0 e s))
+-- The code of conjunct i, and its span.
+pub record BoundsAt (l : List ℕ) (ss : List Span) (e : Expr) (i : ℕ) : Type 0 where
+  pub in_order : (get_or ss i no_span).from ≤ (get_or ss i no_span).to
+  pub within : (get_or ss i no_span).to ≤ length l
+  pub bounded : part (get_or ss i no_span).from (get_or ss i no_span).to l ≡ Expressions.code e
+  pub there : i < length ss
 
--- The code of conjunct i, and its bounds.
-pub record BoundsAt (l ps : List ℕ) (e : Expr) (i : ℕ) : Type 0 where
-  pub in_order : get_or ps (2 * i) 0 ≤ get_or ps (2 * i + 1) 0
-  pub within : get_or ps (2 * i + 1) 0 ≤ length l
-  pub bounded : part (get_or ps (2 * i) 0) (get_or ps (2 * i + 1) 0) l ≡ Expressions.code e
-  pub there : 2 * i + 1 < length ps
-
-pub bounded_at : (l ps : List ℕ) (es : List Expr) (i : ℕ) → Bounded l ps es → i < length es → BoundsAt l ps (get_or es i (Const false)) i
-bounded_at l (p ∷ []) (e ∷ es) i b h = elim b [ ]
+pub bounded_at : (l : List ℕ) (ss : List Span) (es : List Expr) (i : ℕ) → Bounded l ss es → i < length es → BoundsAt l ss (get_or es i (Const false)) i
 bounded_at l [] (e ∷ es) i b h = elim b [ ]
-bounded_at l ps [] i b h = absurd (omega arith)
-bounded_at l (p ∷ q ∷ ps) (e ∷ es) zero b h = record { in_order = b.0.0; within = b.0.1; bounded = b.0.2; there = omega arith }
-bounded_at l (p ∷ q ∷ ps) (e ∷ es) (suc i) b h =
-    let rest = bounded_at l ps es i b.1 (omega arith) in
-    let even : 2 * suc i ≡ suc (suc (2 * i)) = omega arith in
-    let odd : 2 * suc i + 1 ≡ suc (suc (2 * i + 1)) = omega arith in
-    let from : get_or (p ∷ q ∷ ps) (2 * suc i) 0 ≡ get_or ps (2 * i) 0 = ap (λ (k : ℕ). get_or (p ∷ q ∷ ps) k 0) even in
-    let to : get_or (p ∷ q ∷ ps) (2 * suc i + 1) 0 ≡ get_or ps (2 * i + 1) 0 = ap (λ (k : ℕ). get_or (p ∷ q ∷ ps) k 0) odd in
-    record {
-      in_order = omega (arith, from, to, rest.in_order);
-      within = omega (arith, to, rest.within);
-      bounded = ap₂ (λ (f t : ℕ). part f t l) from to ∙ rest.bounded;
-      there = omega (arith, rest.there);
-    }
+bounded_at l ss [] i b h = absurd (omega arith)
+bounded_at l (s ∷ ss) (e ∷ es) zero b h = record { in_order = b.0.0; within = b.0.1; bounded = b.0.2; there = omega arith }
+bounded_at l (s ∷ ss) (e ∷ es) (suc i) b h =
+    let rest = bounded_at l ss es i b.1 (omega arith) in record { in_order = rest.in_order; within = rest.within; bounded = rest.bounded; there = omega (arith, rest.there) }

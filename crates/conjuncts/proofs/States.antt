@@ -3,10 +3,9 @@ use mathlib.Core.Path.{◌≡◌, refl, sym, ap, ◌∙◌}
 use mathlib.Core.Bool.{Bool, true, false}
 use mathlib.Core.List.{List, [], ◌∷◌, ◌++◌, map, map-append}
 use Prim.Native.Nat.{ℕ, ◌+◌, ◌<◌, ◌≤◌}
-use native.Mathlib.Omega.{arith}
 use native.Mathlib.Numerals.{add-one}
 use lib.ListN.{length, take, get_or, set}
-use lib.Seq.{take-suc, take-suc-set}
+use lib.Seq.{take-suc, take-suc-set, take_all}
 use Rattle.lists.specs.Lists.{stands, firsts}
 use Rattle.lists.proofs.Laws.{true_stands, false_stands, stands-firsts, firsts_new, firsts_again}
 use Rattle.sets.specs.Sets.{meet}
@@ -21,10 +20,9 @@ module _ (row : List ℕ) (n s : ℕ) (b : Bool) (e : b ≡ stands s (take n row
   pub state_again : b ≡ true → (xs : List ℕ) → take n row ≡ firsts xs → take n row ≡ firsts (xs ++ s ∷ [])
   state_again t xs q = q ∙ sym (firsts_again s xs (true_stands s xs (sym (known xs q) ∙ t)))
 
-  pub state_new : (x : List ℕ) → b ≡ false → n < length row → x ≡ set row n s → (xs : List ℕ) → take n row ≡ firsts xs → take (n + 1) x ≡ firsts (xs ++ s ∷ [])
-  state_new x t h p xs q =
-      ap (take (n + 1)) p
-      ∙ ap (λ (k : ℕ). take k (set row n s)) (add-one n)
+  pub state_new : b ≡ false → n < length row → (xs : List ℕ) → take n row ≡ firsts xs → take (n + 1) (set row n s) ≡ firsts (xs ++ s ∷ [])
+  state_new t h xs q =
+      ap (λ (k : ℕ). take k (set row n s)) (add-one n)
       ∙ take-suc-set row n s h
       ∙ ap (λ (l : List ℕ). l ++ s ∷ []) q
       ∙ sym (firsts_new s xs (false_stands s xs (sym (known xs q) ∙ t)))
@@ -36,15 +34,15 @@ module _ (inits : List ℕ) (c : ℕ) where
   unfolding firsts
   project_start row = refl
 
-  pub project_done : (i n initials : ℕ) (row : List ℕ) → i ≤ initials → initials ≤ i → take n row ≡ projected c (take i inits) → take n row ≡ projected c (take initials inits)
-  project_done i n initials row l h e = let q : i ≡ initials = omega arith in e ∙ ap (λ (k : ℕ). projected c (take k inits)) q
+  pub project_done : (i n : ℕ) (row : List ℕ) → length inits ≤ i → take n row ≡ projected c (take i inits) → take n row ≡ projected c inits
+  project_done i n row h e = e ∙ ap (projected c) (take_all i inits h)
 
-  pub project_on : (i n s t r initials : ℕ) (row x : List ℕ) → i < initials → initials ≤ length inits → s ≡ get_or inits i 0 → t ≡ meet s c
+  pub project_on : (i n t r : ℕ) (row x : List ℕ) → i < length inits → t ≡ meet (get_or inits i 0) c
       → ((xs : List ℕ) → take n row ≡ firsts xs → take r x ≡ firsts (xs ++ t ∷ []))
       → take n row ≡ projected c (take i inits) → take r x ≡ projected c (take (i + 1) inits)
-  project_on i n s t r initials row x l h p q f e =
+  project_on i n t r row x h q f e =
       let before : List ℕ = map (λ (s : ℕ). meet s c) (take i inits) in
       f before e
-      ∙ ap (λ (k : ℕ). firsts (before ++ k ∷ [])) (q ∙ ap (λ (k : ℕ). meet k c) p)
+      ∙ ap (λ (k : ℕ). firsts (before ++ k ∷ [])) q
       ∙ ap firsts (sym (map-append (λ (s : ℕ). meet s c) (take i inits) (get_or inits i 0 ∷ [])))
-      ∙ ap (projected c) (sym (take-suc inits i 0 (omega arith)) ∙ ap (λ (k : ℕ). take k inits) (sym (add-one i)))
+      ∙ ap (projected c) (sym (take-suc inits i 0 h) ∙ ap (λ (k : ℕ). take k inits) (sym (add-one i)))

@@ -1,69 +1,110 @@
 // Where the conjuncts of a property stand in its nodes, and initial states seen on a set of variables.
 #![tactic(auto)]
 
-ghost use Rattle.std.specs.Prelude.{◌≡◌, List, [], ◌∷◌, ◌++◌, ℕ, ◌+◌, ◌<◌, ◌≤◌, length, take, set as put};
-ghost use Rattle.lists.specs.Lists.{firsts, splice};
+ghost use Rattle.std.specs.Prelude.{◌≡◌, List, [], ◌∷◌, ◌++◌, ℕ, ◌+◌, ◌<◌, ◌≤◌, length, take};
+ghost use Rattle.lists.specs.Lists.{firsts};
 ghost use Rattle.logic.specs.Expressions.{Expr};
-ghost use Rattle.logic.specs.Pieces.{split as conjuncts_of, projected};
+ghost use Rattle.logic.specs.Pieces.{projected};
+ghost use Rattle.conjuncts.specs.declared.Span.{Span as Its};
 ghost use Rattle.conjuncts.specs.Conjuncts.{bounds, Coded};
 
-// A place stored in a row.
-fn put_place(row: &mut [u16], i: usize, place: usize)
-    requires { (i < length row.old) × (place < 65536) }
-    ensures { row.new ≡ put row.old i place }
-{
-    row[i] = place as u16;
+use std::marker::Model;
+
+// Where the code of a conjunct begins in the property's nodes, and the place behind it.
+#[derive(Clone, Copy)]
+pub struct Span {
+    pub from: usize,
+    pub to: usize,
 }
 
-// For each conjunct of the property with this code the place where its own begins and the place behind it, into the row from
-// `used` on, and the places used then. The code begins at place `offset`; `(a&b)` gives the split of a, then that of b.
-pub fn split(code: &[u16], offset: usize, row: &mut [u16], used: usize) -> usize
-    requires { (e : Expr) × Coded e code.now offset row.old used }
-    ensures { (e : Expr) → Coded e code.now offset row.old used → (result ≡ used + length (bounds offset e)) × (row.new ≡ splice used (bounds offset e) row.old) }
+// The spans of a property's conjuncts, in order, of which there may be N.
+#[derive(Drop)]
+pub struct Spans<const N: usize> {
+    row: [Span; N],
+    count: usize,
+}
+
+impl<const N: usize> Model for Spans<N> {
+    ghost Value = { List Its };
+
+    ghost view = { λ s. take s.count s.row };
+
+    ghost invariant = { λ s. s.count ≤ N };
+}
+
+impl<const N: usize> Spans<N> {
+    pub fn none() -> Spans<N>
+        ensures { result ≡ [] }
+    {
+        Spans {
+            row: [Span { from: 0, to: 0 }; N],
+            count: 0,
+        }
+    }
+
+    pub fn as_slice(&self) -> &[Span]
+        ensures { result.now ≡ self.now }
+    {
+        &self.row[..self.count]
+    }
+}
+
+// The spans of the conjuncts of the property with this code behind those that are there. The code begins at place `offset`;
+// `(a&b)` gives the split of a, then that of b.
+pub fn split<const N: usize>(code: &[u16], offset: usize, spans: &mut Spans<N>)
+    requires { (e : Expr) × Coded e code.now offset spans.old N }
+    ensures { (e : Expr) → Coded e code.now offset spans.old N → spans.new ≡ spans.old ++ bounds offset e }
+{
+    spans.count = split_row(code, offset, &mut spans.row, spans.count);
+}
+
+// The same behind the first `count` spans of a row, and how many there are then. The row and its count stand here beside each
+// other since a function that calls itself and is lent a `Spans<N>` gets no proof.
+fn split_row(code: &[u16], offset: usize, row: &mut [Span], count: usize) -> usize
+    requires { (count ≤ length row.old) × ((e : Expr) × Coded e code.now offset (take count row.old) (length row.old)) }
+    ensures { (result ≤ length row.old) × (length row.new ≡ length row.old) × ((e : Expr) → Coded e code.now offset (take count row.old) (length row.old) → take result row.new ≡ take count row.old ++ bounds offset e) }
 {
     if code[0] != terms::AND {
-        put_place(row, used, offset);
-        put_place(row, used + 1, offset + code.len());
-        return used + 2;
+        let to = offset + code.len();
+        row[count] = Span { from: offset, to };
+        return count + 1;
     }
     let second = terms::second(code, 0);
-    let n = split(&code[1..second], offset + 1, row, used);
-    split(&code[second..], offset + second, row, n)
+    let n = split_row(&code[1..second], offset + 1, row, count);
+    split_row(&code[second..], offset + second, row, n)
 }
 
-// The same for a property from its first node on, and how many conjuncts it has.
-pub fn split_property(property: &[u16], size: usize, row: &mut [u16]) -> usize
-    requires { (size ≤ length property.now) × ((e : Expr) × Coded e (take size property.now) 0 row.old 0) }
-    ensures { (e : Expr) → Coded e (take size property.now) 0 row.old 0 → (result ≡ length (conjuncts_of e)) × (row.new ≡ splice 0 (bounds 0 e) row.old) }
+// The spans of the conjuncts of a property.
+pub fn split_property<const N: usize>(property: &[u16]) -> Spans<N>
+    requires { (e : Expr) × Coded e property.now 0 [] N }
+    ensures { (e : Expr) → Coded e property.now 0 [] N → result ≡ bounds 0 e }
 {
-    let used = split(&property[..size], 0, row, 0);
-    used / 2
+    let mut spans = Spans::none();
+    split(property, 0, &mut spans);
+    spans
 }
 
-// A state behind the first n, where it does not stand among them, and how many there are then.
+// A state behind the first n, where it does not stand among them, and how many there are then. No heap: the row has its fixed place.
 fn add_state(row: &mut [u64], n: usize, s: u64) -> usize
     requires { n < length row.old }
     ensures { (result ≤ n + 1) × (length row.new ≡ length row.old) × ((xs : List ℕ) → take n row.old ≡ firsts xs → take result row.new ≡ firsts (xs ++ s ∷ [])) }
 {
-    if decks::stands_in(row, n, s) {
+    if decks::stands_in(&row[..n], s) {
         return n;
     }
-    decks::put_state(row, n, s);
+    row[n] = s;
     n + 1
 }
 
-// The first states of a row with values outside the set put to 0, equal ones dropped, the first kept, into another row, and how many they are.
-pub fn project(inits: &[u64], initials: usize, set: u64, row: &mut [u64]) -> usize
-    requires { (initials ≤ length inits.now) × (initials ≤ length row.old) }
-    ensures { (result ≤ initials) × (length row.new ≡ length row.old) × (take result row.new ≡ projected set (take initials inits.now)) }
+// The states with values outside the set put to 0, equal ones dropped, the first kept, into a row, and how many they are.
+pub fn project(inits: &[u64], set: u64, row: &mut [u64]) -> usize
+    requires { length inits.now ≤ length row.old }
+    ensures { (result ≤ length inits.now) × (length row.new ≡ length row.old) × (take result row.new ≡ projected set inits.now) }
 {
-    let mut i = 0;
     let mut n = 0;
-    while i < initials {
-        let s = decks::state_at(inits, i);
-        let seen = sets::meet(s, set);
+    for s in inits {
+        let seen = sets::meet(*s, set);
         n = add_state(row, n, seen);
-        i += 1;
     }
     n
 }

@@ -2,175 +2,193 @@
 use mathlib.Core.Path.{◌≡◌, refl, sym, ap, ◌∙◌, subst}
 use mathlib.Core.Bool.{Bool, true, false, not}
 use mathlib.Core.List.{List, [], ◌∷◌, ◌++◌}
-use Prim.Native.Nat.{ℕ, ◌+◌, ◌-◌, ◌*◌, ◌%◌, ◌^◌, ◌<◌, ◌≤◌}
+use Prim.Native.Nat.{ℕ, ◌+◌, ◌-◌, ◌%◌, ◌^◌, ◌<◌, ◌≤◌}
 use native.Mathlib.Omega.{arith}
 use lib.Dec.{ltb}
-use lib.ListN.{length, take, drop, set, replicate, length-append, length-drop, length-set}
+use lib.ListN.{length, take, drop, set, replicate, length-append, length-drop, length-replicate}
 use lib.Seq.{drop-drop}
-use borrow.Author.Tests.{lt-ltb, le-ltb, not-false}
+use borrow.Author.Tests.{lt-ltb, le-ltb}
+use Rattle.std.specs.Prelude.{Option, Some, None, Result, Ok, Err}
+use Rattle.std.specs.Option.{ok_or}
 use Rattle.lists.specs.Lists.{stands, padded, splice}
 use Rattle.lists.proofs.Laws.{padded-append, padded_snoc, padded-nil, take-padded}
 use Rattle.sets.specs.Sets.{has, inside, only, union}
 use Rattle.sets.proofs.Laws.{only-within}
 use Rattle.logic.specs.Expressions.{Expr, nodes, written, temporal, code}
 use Rattle.logic.specs.Decks.{Deck, Equation, total_nodes}
-use Rattle.decks.specs.declared.Answer.{Answer}
-use Rattle.decks.specs.declared.Answer.TheVariants.{Fine, BadFrame, Outside, Temporal, TooDeep, ManyInitials, ManyEquations, ManyNodes}
+use Rattle.decks.specs.declared.Refusal.{Refusal}
+use Rattle.decks.specs.declared.Refusal.TheVariants.{BadFrame, Outside, Temporal, TooDeep, ManyInitials, ManyEquations, ManyNodes}
+use Rattle.decks.specs.declared.Deck.{Deck as Stored}
+use Rattle.decks.specs.declared.Equations.{Equations}
 use Rattle.decks.specs.Answers.{Outcome, Got, Refused, refuse, afterwards}
-use Rattle.decks.proofs.Outcomes.{refuse_got, afterwards_got}
+use Rattle.decks.specs.Stored.{codes, stored_equations}
+use Rattle.decks.specs.Lent.{Hold}
+use Rattle.decks.proofs.Outcomes.{refuse_got, got_eq}
 use Rattle.decks.proofs.Complete.{left_more}
 use Rattle.decks.proofs.Stored.{total_more, equations_more}
-use Rattle.decks.specs.Lent.{HoldsEquations}
 use Rattle.frames.specs.Hex.{number}
-use Rattle.frames.specs.Read.{DueInit, DueAny, DueEquation, DueCount, Sofar, begun, read_expr, whole_expr, set_line, init_line, property_line, with_equation, equation_line, kind_of, last_left}
+use Rattle.frames.specs.Read.{DueInit, DueAny, DueEquation, DueCount, Sofar, begun, read_expr, whole_number, whole_expr, set_line, init_line, property_line, with_equation, equation_line, kind_of, last_left}
 use Rattle.decks.specs.Readings.{Reading, Whole, Wrong, Deep, left_set}
-use Rattle.lines.specs.declared.Number.{Number}
-use Rattle.lines.specs.declared.Number.TheVariants.{Good, Bad}
-use Rattle.lines.specs.Numbers.{number_read}
-use Rattle.lines.proofs.Laws.{whole-number_none, whole-number-some, pair_inside}
-use Rattle.codes.specs.declared.Step.{Step}
+use Rattle.lines.specs.Numbers.{number_read, pair_read}
+use Rattle.lines.proofs.Laws.{whole-number_none, whole-number-some, pair_inside, some_below, none_below}
+use Rattle.codes.specs.declared.Read.{Read}
+use Rattle.codes.specs.declared.Stop.{Stop}
+use Rattle.codes.specs.declared.Stop.TheVariants.{Wrong as StopWrong, Deep as StopDeep}
+use Rattle.codes.specs.declared.Written.{Written}
 use Rattle.codes.specs.Steps.{step_of, nodes_of, Kept}
 use Rattle.codes.proofs.Steps.{whole-spans, whole_when, whole_next}
+use Rattle.decklines.specs.declared.Due.TheVariants.{Set as SetKind, Init, Any, Equation as EquationKind, Count}
 use Rattle.decklines.specs.declared.Held.{Held}
-use Rattle.decklines.specs.declared.LineRead.{LineRead}
-use Rattle.decklines.specs.declared.ExprRead.{ExprRead}
-use Rattle.decklines.specs.Held.{held_of, line_of, expr_of, InitCame, PropertyCame, EquationCame, Room, Stored}
+use Rattle.decklines.specs.Held.{said_as, written_of, held_of, line_of, with_vars, with_inits, with_equations, with_property, Came, Room}
 
-abbrev pub held : ℕ → ℕ → ℕ → ℕ → ℕ → ℕ → ℕ → ℕ → Held
-held d v i e u l c z = record { due = d; vars = v; initials = i; equations = e; used = u; last = l; covered = c; size = z }
+-- ---- what is said of an outcome
 
-abbrev pub went : Held → LineRead
-went h = record { fine = true; answer = Fine; held = h }
+module _ {A B : Type 0} (f : A → B) where
+  pub said_got : (o : Outcome A) (b : B) → Ok b ≡ said_as f o → (x : A) × (o ≡ Got x) × (b ≡ f x)
+  said_got (Got x) b e = (x, refl, cc)
+  said_got (Refused a) b e = cc
 
-pub nothing_held : held 0 0 0 0 0 0 0 0 ≡ held_of begun
+  pub said_refused : (o : Outcome A) (a : Refusal) → Err a ≡ said_as f o → o ≡ Refused a
+  said_refused (Got x) a e = cc
+  said_refused (Refused b) a e = let z : b ≡ a = cc in ap (λ (y : Refusal). Refused y) z
+
+pub nothing_held : ◌≡◌ {A = Held} (record { due = SetKind; used = 0; last = 0; covered = 0 }) (held_of begun)
 unfolding total_nodes last_left left_set
 nothing_held = refl
 
+came_refused : (f : Sofar → Stored) (o : Outcome Sofar) (a : Refusal) (d : Stored) → o ≡ Refused a → Came f o (Err a) d
+came_refused f o a d e = subst (λ (x : Outcome Sofar). Came f x (Err a) d) (sym e) (record { line_is = refl; deck_is = tt })
+
+came_got : (f : Sofar → Stored) (o : Outcome Sofar) (t : Sofar) (r : Result Held Refusal) (d : Stored) → o ≡ Got t → r ≡ line_of (Got t) → d ≡ f t → Came f o r d
+came_got f o t r d e l k = subst (λ (x : Outcome Sofar). Came f x r d) (sym e) (record { line_is = l; deck_is = k })
+
+-- ---- the deck lent
+
+abbrev pub lent : ℕ → List ℕ → ℕ → Equations → List ℕ → ℕ → Stored
+lent v i k q p z = record { vars = v; inits = i; initials = k; equations = q; property = p; size = z }
+
+-- A padded row has all its places.
+padded-long : (n : ℕ) (l : List ℕ) → n ≤ length (padded n l)
+padded-long n l = omega (arith, length-append l (replicate (n - length l) 0), length-replicate {A = ℕ} (n - length l) 0)
+
+-- ---- sets and states
+
+pub set_said : (n : ℕ) (cs : List ℕ) (r : Option ℕ) → r ≡ number_read (number 8 cs) → ok_or r (BadFrame 1 n) ≡ said_as (λ (x : ℕ). x) (whole_number 1 n 8 cs)
+set_said n cs None e = ap (said_as (λ (x : ℕ). x)) (sym (whole-number_none 1 n 8 cs None e refl))
+set_said n cs (Some v) e = ap (said_as (λ (x : ℕ). x)) (sym (whole-number-some 1 n 8 cs (Some v) v e refl))
+
 -- ---- 01
 
-module _ (cs : List ℕ) (n : ℕ) (x : Number) (d : Deck) where
-  pub set-number : (r : LineRead) → x ≡ number_read (number 8 cs) → x ≡ Bad → r ≡ line_of (Refused (BadFrame 1 n)) → r ≡ line_of (set_line n cs d)
+module _ (n : ℕ) (cs : List ℕ) (s : Sofar) (d : Stored) where
+  pub set_refused : (a : Refusal) (out : Stored) → Err a ≡ said_as (λ (x : ℕ). x) (whole_number 1 n 8 cs) → Came (with_vars d) (set_line n cs s.deck) (Err a) out
   unfolding set_line
-  set-number r e f q = let z : set_line n cs d ≡ Refused (BadFrame 1 n) = simp (whole-number_none 1 n 8 cs x e f, set_line) in q ∙ ap line_of (sym z)
+  set_refused a out w = came_refused (with_vars d) (set_line n cs s.deck) a out (simp (said_refused (λ (x : ℕ). x) (whole_number 1 n 8 cs) a w, set_line))
 
-  pub set_fine : (v : ℕ) → x ≡ number_read (number 8 cs) → x ≡ Good v → went (held 1 v 0 0 0 0 0 0) ≡ line_of (set_line n cs d)
-  unfolding set_line total_nodes last_left left_set
-  set_fine v e f =
-      let z : set_line n cs d ≡ Got (record { due = DueInit; deck = record { vars = v; inits = []; equations = []; property = d.property } }) = simp (whole-number-some 1 n 8 cs x v e f, set_line) in
-      sym (ap line_of z)
+  pub set_fine : (v : ℕ) → Ok v ≡ said_as (λ (x : ℕ). x) (whole_number 1 n 8 cs) → (h : Held) → h ≡ held_of begun → Came (with_vars d) (set_line n cs s.deck) (Ok (record { due = Init; used = h.used; last = h.last; covered = h.covered })) (lent v d.inits d.initials d.equations d.property d.size)
+  unfolding set_line
+  set_fine v w h e =
+      let g = said_got (λ (x : ℕ). x) (whole_number 1 n 8 cs) v w in
+      came_got (with_vars d) (set_line n cs s.deck) (record { due = DueInit; deck = record { vars = v; inits = []; equations = []; property = s.deck.property } }) _ _
+      (simp (g.1, g.2, set_line))
+      (ap (λ (x : Held). Ok (record { due = Init; used = x.used; last = x.last; covered = x.covered })) e)
+      refl
 
 -- ---- 02
 
-pub refused_few : (r : LineRead) (a : Answer) → r ≡ line_of (Refused a) → r.held.initials ≤ 64
-refused_few r a e = omega (arith, ap (λ (x : LineRead). x.held.initials) e)
-
-init_refused : (o : Outcome Sofar) (a : Answer) (r : LineRead) (l : List ℕ) → o ≡ Refused a → r ≡ line_of (Refused a) → InitCame o r l
-init_refused o a r l e q = subst (λ (x : Outcome Sofar). InitCame x r l) (sym e) (record { line_is = q; inits_are = tt })
-
-module _ (cs : List ℕ) (n : ℕ) (h : Held) (x : Number) (inits : List ℕ) (s : Sofar) where
-  pub init_number : (r : LineRead) (out : List ℕ) → x ≡ number_read (number 8 cs) → x ≡ Bad → r ≡ line_of (Refused (BadFrame 1 n)) → InitCame (init_line n cs s.deck) r out
+module _ (n : ℕ) (cs : List ℕ) (s : Sofar) (d : Stored) where
+  pub init_number : (a : Refusal) (out : Stored) → Err a ≡ said_as (λ (x : ℕ). x) (whole_number 1 n 8 cs) → Came (with_inits d) (init_line n cs s.deck) (Err a) out
   unfolding init_line
-  init_number r out e f q = let z : init_line n cs s.deck ≡ Refused (BadFrame 1 n) = simp (whole-number_none 1 n 8 cs x e f, init_line) in init_refused (init_line n cs s.deck) (BadFrame 1 n) r out z q
+  init_number a out w = came_refused (with_inits d) (init_line n cs s.deck) a out (simp (said_refused (λ (x : ℕ). x) (whole_number 1 n 8 cs) a w, init_line))
 
-  module _ (v : ℕ) (b : Bool) where
-    known : h ≡ held_of s → inits ≡ padded 64 s.deck.inits → b ≡ stands v (take h.initials inits) → stands v s.deck.inits ≡ b
-    known e f g =
-        sym (g ∙ ap (λ (y : Held). stands v (take y.initials inits)) e ∙ ap (λ (l : List ℕ). stands v (take (length s.deck.inits) l)) f ∙ ap (stands v) (take-padded 64 s.deck.inits))
+  module _ (p : d.vars ≡ s.deck.vars) (q : d.inits ≡ padded 64 s.deck.inits) (r : d.initials ≡ length s.deck.inits) (v : ℕ) (w : Ok v ≡ said_as (λ (x : ℕ). x) (whole_number 1 n 8 cs)) (states : List ℕ) (i : states ≡ take d.initials d.inits) where
+    the_number : whole_number 1 n 8 cs ≡ Got v
+    the_number = let g = said_got (λ (x : ℕ). x) (whole_number 1 n 8 cs) v w in g.1 ∙ ap (λ (x : ℕ). Got x) (sym g.2)
 
-    pub init_equal : (r : LineRead) (out : List ℕ) → h ≡ held_of s → inits ≡ padded 64 s.deck.inits → x ≡ number_read (number 8 cs) → x ≡ Good v → b ≡ stands v (take h.initials inits) → b ≡ true → r ≡ line_of (Refused (BadFrame 1 n)) → InitCame (init_line n cs s.deck) r out
+    known : (b : Bool) → b ≡ stands v states → stands v s.deck.inits ≡ b
+    known b g = sym (g ∙ ap (stands v) (i ∙ ap (λ (x : ℕ). take x d.inits) r ∙ ap (take (length s.deck.inits)) q ∙ take-padded 64 s.deck.inits))
+
+    judged : (b : Bool) → b ≡ inside v d.vars → inside v s.deck.vars ≡ b
+    judged b g = sym (g ∙ ap (inside v) p)
+
+    pub init_equal : (out : Stored) → true ≡ stands v states → Came (with_inits d) (init_line n cs s.deck) (Err (BadFrame 1 n)) out
     unfolding init_line
-    init_equal r out e f i j g t q =
-        let z : init_line n cs s.deck ≡ Refused (BadFrame 1 n) = simp (whole-number-some 1 n 8 cs x v i j, known e f g ∙ t, init_line) in
-        init_refused (init_line n cs s.deck) (BadFrame 1 n) r out z q
+    init_equal out g = came_refused (with_inits d) (init_line n cs s.deck) (BadFrame 1 n) out (simp (the_number, known true g, init_line))
 
-    module _ (c : Bool) where
-      judged : h ≡ held_of s → c ≡ inside v h.vars → inside v s.deck.vars ≡ c
-      judged e g = sym (g ∙ ap (λ (y : Held). inside v y.vars) e)
+    pub init_outside : (out : Stored) → false ≡ stands v states → false ≡ inside v d.vars → Came (with_inits d) (init_line n cs s.deck) (Err (Outside 1 n)) out
+    unfolding init_line
+    init_outside out g k = came_refused (with_inits d) (init_line n cs s.deck) (Outside 1 n) out (simp (the_number, known false g, judged false k, init_line))
 
-      pub init_outside : (r : LineRead) (out : List ℕ) → h ≡ held_of s → inits ≡ padded 64 s.deck.inits → x ≡ number_read (number 8 cs) → x ≡ Good v → b ≡ stands v (take h.initials inits) → b ≡ false → c ≡ inside v h.vars → not c ≡ true → r ≡ line_of (Refused (Outside 1 n)) → InitCame (init_line n cs s.deck) r out
-      unfolding init_line
-      init_outside r out e f i j g t k u q =
-          let w : not (inside v s.deck.vars) ≡ true = ap not (judged e k) ∙ u in
-          let z : init_line n cs s.deck ≡ Refused (Outside 1 n) = simp (whole-number-some 1 n 8 cs x v i j, known e f g ∙ t, w, init_line) in
-          init_refused (init_line n cs s.deck) (Outside 1 n) r out z q
+    pub init_many : (out : Stored) → false ≡ stands v states → true ≡ inside v d.vars → 64 < d.initials + 1 → Came (with_inits d) (init_line n cs s.deck) (Err (ManyInitials n)) out
+    unfolding init_line
+    init_many out g k m =
+        let l : 64 < length s.deck.inits + 1 = omega (arith, m, r) in
+        came_refused (with_inits d) (init_line n cs s.deck) (ManyInitials n) out (simp (the_number, known false g, judged true k, lt-ltb 64 (length s.deck.inits + 1) l, init_line))
 
-      pub init_many : (r : LineRead) (out : List ℕ) → h ≡ held_of s → inits ≡ padded 64 s.deck.inits → x ≡ number_read (number 8 cs) → x ≡ Good v → b ≡ stands v (take h.initials inits) → b ≡ false → c ≡ inside v h.vars → not c ≡ false → 64 < h.initials + 1 → r ≡ line_of (Refused (ManyInitials n)) → InitCame (init_line n cs s.deck) r out
-      unfolding init_line
-      init_many r out e f i j g t k u m q =
-          let w : not (inside v s.deck.vars) ≡ false = ap not (judged e k) ∙ u in
-          let l : 64 < length s.deck.inits + 1 = omega (arith, m, ap (λ (y : Held). y.initials) e) in
-          let z : init_line n cs s.deck ≡ Refused (ManyInitials n) = simp (whole-number-some 1 n 8 cs x v i j, known e f g ∙ t, w, lt-ltb 64 (length s.deck.inits + 1) l, init_line) in
-          init_refused (init_line n cs s.deck) (ManyInitials n) r out z q
-
-      pub init_fine : (out : List ℕ) → h ≡ held_of s → inits ≡ padded 64 s.deck.inits → x ≡ number_read (number 8 cs) → x ≡ Good v → b ≡ stands v (take h.initials inits) → b ≡ false → c ≡ inside v h.vars → not c ≡ false → h.initials + 1 ≤ 64 → out ≡ set inits h.initials v → InitCame (init_line n cs s.deck) (went (held 2 h.vars (h.initials + 1) h.equations h.used h.last h.covered 0)) out
-      unfolding init_line
-      init_fine out e f i j g t k u m q =
-          let d : Deck = s.deck in
-          let w : not (inside v d.vars) ≡ false = ap not (judged e k) ∙ u in
-          let l : length d.inits + 1 ≤ 64 = omega (arith, m, ap (λ (y : Held). y.initials) e) in
-          let z : init_line n cs d ≡ Got (record { due = DueAny; deck = record { vars = d.vars; inits = d.inits ++ (v ∷ []); equations = d.equations; property = d.property } }) = simp (whole-number-some 1 n 8 cs x v i j, known e f g ∙ t, w, le-ltb 64 (length d.inits + 1) l, init_line) in
-          let long : h.initials + 1 ≡ length (d.inits ++ (v ∷ [])) = omega (arith, ap (λ (y : Held). y.initials) e, length-append d.inits (v ∷ [])) in
-          subst (λ (o : Outcome Sofar). InitCame o (went (held 2 h.vars (h.initials + 1) h.equations h.used h.last h.covered 0)) out) (sym z)
-          (record {
-            line_is = ap (λ (y : ℕ). went (held 2 h.vars y h.equations h.used h.last h.covered 0)) long ∙ ap (λ (y : Held). went (held 2 y.vars (length (d.inits ++ (v ∷ []))) y.equations y.used y.last y.covered 0)) e;
-            inits_are = q ∙ ap (λ (y : List ℕ). set y h.initials v) f ∙ ap (λ (y : ℕ). set (padded 64 d.inits) y v) (ap (λ (y : Held). y.initials) e) ∙ padded_snoc 64 d.inits v (omega (arith, l));
-          })
+    pub init_fine : (h : Held) → h ≡ held_of s → false ≡ stands v states → true ≡ inside v d.vars → d.initials + 1 ≤ 64 → Came (with_inits d) (init_line n cs s.deck) (Ok (record { due = Any; used = h.used; last = h.last; covered = h.covered })) (lent d.vars (set d.inits d.initials v) (d.initials + 1) d.equations d.property d.size)
+    unfolding init_line
+    init_fine h e g k m =
+        let D : Deck = s.deck in
+        let l : length D.inits + 1 ≤ 64 = omega (arith, m, r) in
+        let row : set d.inits d.initials v ≡ padded 64 (D.inits ++ (v ∷ [])) =
+        ap (λ (x : List ℕ). set x d.initials v) q
+        ∙ ap (λ (x : ℕ). set (padded 64 D.inits) x v) r
+        ∙ padded_snoc 64 D.inits v (omega (arith, l))
+        in
+        let long : d.initials + 1 ≡ length (D.inits ++ (v ∷ [])) = omega (arith, r, length-append D.inits (v ∷ [])) in
+        came_got (with_inits d) (init_line n cs D) (record { due = DueAny; deck = record { vars = D.vars; inits = D.inits ++ (v ∷ []); equations = D.equations; property = D.property } }) _ _
+        (simp (the_number, known false g, judged true k, le-ltb 64 (length D.inits + 1) l, init_line))
+        (ap (λ (x : Held). Ok (record { due = Any; used = x.used; last = x.last; covered = x.covered })) e)
+        (ap (λ (x : List ℕ). lent d.vars x (d.initials + 1) d.equations d.property d.size) row ∙ ap (λ (x : ℕ). lent d.vars (padded 64 (D.inits ++ (v ∷ []))) x d.equations d.property d.size) long)
 
 -- ---- expressions
 
-pub expression_unkept : (r : ExprRead) (a : Answer) (line : List ℕ) (at used : ℕ) (was out : List ℕ) → r ≡ expr_of (Refused a) → not r.fine ≡ false → Kept line at used r.nodes was out
-expression_unkept r a line at used was out e q = let z : true ≡ false = ap (λ (k : ExprRead). not k.fine) (sym e) ∙ q in let w : ◌≡◌ {A = ℕ} 0 1 = cc in absurd (omega arith)
+module _ (line : List ℕ) (at n : ℕ) where
+  abbrev pub ReadAs : Result Read Stop → Type 0
+  ReadAs r = r ≡ step_of (length line) (read_expr 32 (drop at line))
 
-pub expression_none : (line : List ℕ) (at : ℕ) (r : ExprRead) (a : Answer) → at ≤ length line → r ≡ expr_of (Refused a) → at + 2 * r.nodes ≤ length line
-expression_none line at r a h q = omega (arith, ap (λ (k : ExprRead). k.nodes) q)
-
-pub expression_kept : (line : List ℕ) (at used : ℕ) (e : Step) (was out : List ℕ) → (e.stop ≡ 0 → Kept line at used e.nodes was out) → e.stop ≡ 0 → Kept line at used e.nodes was out
-expression_kept line at used e was out f q = f q
-
-module _ (line : List ℕ) (at n : ℕ) (e : Step) where
-  abbrev pub Read : Type 0
-  Read = e ≡ step_of (length line) (read_expr 32 (drop at line))
-
-  pub expression_deep : (r : ExprRead) → Read → e.stop ≡ 2 → r ≡ expr_of (Refused (TooDeep n)) → r ≡ expr_of (whole_expr n (drop at line))
+  pub expression_deep : (i : ℕ) → ReadAs (Err (StopDeep i)) → Err (TooDeep n) ≡ said_as written_of (whole_expr n (drop at line))
   unfolding whole_expr
-  expression_deep r p q f = f ∙ ap expr_of (sym (go (read_expr 32 (drop at line)) refl p))
+  expression_deep i p = ap (said_as written_of) (sym (go (read_expr 32 (drop at line)) refl p))
     where
-      go : (x : Reading) → read_expr 32 (drop at line) ≡ x → e ≡ step_of (length line) x → whole_expr n (drop at line) ≡ Refused (TooDeep n)
-      go (Whole y cs) i j = absurd (omega (arith, q, ap (λ (z : Step). z.stop) j))
-      go (Wrong cs) i j = absurd (omega (arith, q, ap (λ (z : Step). z.stop) j))
-      go (Deep cs) i j = simp (i, whole_expr)
+      go : (x : Reading) → read_expr 32 (drop at line) ≡ x → Err (StopDeep i) ≡ step_of (length line) x → whole_expr n (drop at line) ≡ Refused (TooDeep n)
+      go (Whole y cs) k j = cc
+      go (Wrong cs) k j = cc
+      go (Deep cs) k j = simp (k, whole_expr)
 
-  pub expression_wrong : (r : ExprRead) → Read → (e.stop ≡ 2 → ⊥) → (e.stop ≡ 0 → ⊥) → r ≡ expr_of (Refused (BadFrame 1 n)) → r ≡ expr_of (whole_expr n (drop at line))
+  pub expression_wrong : (i : ℕ) → ReadAs (Err (StopWrong i)) → Err (BadFrame 1 n) ≡ said_as written_of (whole_expr n (drop at line))
   unfolding whole_expr
-  expression_wrong r p q m f = f ∙ ap expr_of (sym (go (read_expr 32 (drop at line)) refl p))
+  expression_wrong i p = ap (said_as written_of) (sym (go (read_expr 32 (drop at line)) refl p))
     where
-      go : (x : Reading) → read_expr 32 (drop at line) ≡ x → e ≡ step_of (length line) x → whole_expr n (drop at line) ≡ Refused (BadFrame 1 n)
-      go (Whole y cs) i j = absurd (m (ap (λ (z : Step). z.stop) j))
-      go (Wrong cs) i j = simp (i, whole_expr)
-      go (Deep cs) i j = absurd (q (ap (λ (z : Step). z.stop) j))
+      go : (x : Reading) → read_expr 32 (drop at line) ≡ x → Err (StopWrong i) ≡ step_of (length line) x → whole_expr n (drop at line) ≡ Refused (BadFrame 1 n)
+      go (Whole y cs) k j = cc
+      go (Wrong cs) k j = simp (k, whole_expr)
+      go (Deep cs) k j = cc
 
-  pub expression_behind : (r : ExprRead) → at ≤ length line → Read → e.stop ≡ 0 → (e.next ≡ length line → ⊥) → r ≡ expr_of (Refused (BadFrame 1 n)) → r ≡ expr_of (whole_expr n (drop at line))
-  unfolding whole_expr
-  expression_behind r h p q m f =
-      let w = whole_when (length line) e (read_expr 32 (drop at line)) p q in
-      let g = whole_next line at 32 e w.0 w.1 h p w.2 in
-      f ∙ ap expr_of (sym (go w.0 w.1 w.2 (ap (λ (l : List ℕ). length l) g.2 ∙ length-drop e.next line) g.1))
-    where
-      go : (y : Expr) (cs : List ℕ) → read_expr 32 (drop at line) ≡ Whole y cs → length cs ≡ length line - e.next → e.next ≤ length line → whole_expr n (drop at line) ≡ Refused (BadFrame 1 n)
-      go y [] i j k = absurd (m (omega (arith, j, k)))
-      go y (c ∷ cs) i j k = simp (i, whole_expr)
+  module _ (e : Read) (h : at ≤ length line) (p : ReadAs (Ok e)) where
+    the_whole : (y : Expr) × (cs : List ℕ) × (read_expr 32 (drop at line) ≡ Whole y cs) × (length cs ≡ length line - e.next) × (e.next ≤ length line)
+    the_whole =
+        let w = whole_when (length line) e (read_expr 32 (drop at line)) p in
+        let g = whole_next line at 32 e w.0 w.1 h p w.2 in
+        (w.0, w.1, w.2, ap (λ (l : List ℕ). length l) g.2 ∙ length-drop e.next line, g.1)
 
-  pub expression_fine : at ≤ length line → Read → e.stop ≡ 0 → e.next ≡ length line → record { fine = true; answer = Fine; nodes = e.nodes; vars = e.vars; temporal = e.temporal } ≡ expr_of (whole_expr n (drop at line))
-  unfolding whole_expr
-  expression_fine h p q m =
-      let w = whole_when (length line) e (read_expr 32 (drop at line)) p q in
-      let g = whole_next line at 32 e w.0 w.1 h p w.2 in
-      ap (λ (y : Step). record { fine = true; answer = Fine; nodes = y.nodes; vars = y.vars; temporal = y.temporal }) (p ∙ ap (step_of (length line)) w.2)
-      ∙ ap expr_of (sym (go w.0 w.1 w.2 (ap (λ (l : List ℕ). length l) g.2 ∙ length-drop e.next line)))
-    where
-      go : (y : Expr) (cs : List ℕ) → read_expr 32 (drop at line) ≡ Whole y cs → length cs ≡ length line - e.next → whole_expr n (drop at line) ≡ Got y
-      go y [] i j = simp (i, whole_expr)
-      go y (c ∷ cs) i j = absurd (omega (arith, j, m))
+    pub expression_behind : (e.next ≡ length line → ⊥) → Err (BadFrame 1 n) ≡ said_as written_of (whole_expr n (drop at line))
+    unfolding whole_expr
+    expression_behind m = let w = the_whole in ap (said_as written_of) (sym (go w.0 w.1 w.2 w.3 w.4))
+      where
+        go : (y : Expr) (cs : List ℕ) → read_expr 32 (drop at line) ≡ Whole y cs → length cs ≡ length line - e.next → e.next ≤ length line → whole_expr n (drop at line) ≡ Refused (BadFrame 1 n)
+        go y [] i j k = absurd (m (omega (arith, j, k)))
+        go y (c ∷ cs) i j k = simp (i, whole_expr)
+
+    pub expression_fine : e.next ≡ length line → Ok e.written ≡ said_as written_of (whole_expr n (drop at line))
+    unfolding whole_expr
+    expression_fine m = let w = the_whole in go w.0 w.1 w.2 w.3
+      where
+        same : (y : Expr) (cs : List ℕ) → Ok e ≡ step_of (length line) (Whole y cs) → e.written ≡ written_of y
+        same y cs q = let z : e ≡ record { written = written_of y; next = length line - length cs } = cc in ap (λ (x : Read). x.written) z
+
+        go : (y : Expr) (cs : List ℕ) → read_expr 32 (drop at line) ≡ Whole y cs → length cs ≡ length line - e.next → Ok e.written ≡ said_as written_of (whole_expr n (drop at line))
+        go y [] i j = let z : whole_expr n (drop at line) ≡ Got y = simp (i, whole_expr) in ap (λ (x : Written). Ok x) (same y [] (p ∙ ap (step_of (length line)) i)) ∙ ap (said_as written_of) (sym z)
+        go y (c ∷ cs) i j = absurd (omega (arith, j, m))
 
 -- An expression that fills the line gives its code.
 pub filled : (n : ℕ) (cs : List ℕ) (e : Expr) → whole_expr n cs ≡ Got e → nodes_of (nodes e) cs ≡ code e
@@ -183,71 +201,48 @@ filled n cs e q = go (read_expr 32 cs) refl
     go (Wrong ds) i = let z : Refused (BadFrame 1 n) ≡ Got e = sym (simp (i, whole_expr)) ∙ q in cc
     go (Deep ds) i = let z : Refused (TooDeep n) ≡ Got e = sym (simp (i, whole_expr)) ∙ q in cc
 
-module _ (o : Outcome Expr) (e : ExprRead) where
-  expr_stopped : e ≡ expr_of o → not e.fine ≡ true → o ≡ Refused e.answer
-  expr_stopped p q = go o p
-    where
-      go : (x : Outcome Expr) → e ≡ expr_of x → x ≡ Refused e.answer
-      go (Got y) i = let z : false ≡ true = ap (λ (k : ExprRead). not k.fine) (sym i) ∙ q in cc
-      go (Refused a) i = ap (λ (k : ExprRead). Refused k.answer) (sym i)
-
-  expr_got : e ≡ expr_of o → not e.fine ≡ false → (y : Expr) × (o ≡ Got y) × (e.nodes ≡ nodes y) × (e.vars ≡ written y) × (e.temporal ≡ temporal y)
-  expr_got p q = go o p
-    where
-      go : (x : Outcome Expr) → e ≡ expr_of x → (y : Expr) × (x ≡ Got y) × (e.nodes ≡ nodes y) × (e.vars ≡ written y) × (e.temporal ≡ temporal y)
-      go (Got y) i = (y, refl, ap (λ (k : ExprRead). k.nodes) i, ap (λ (k : ExprRead). k.vars) i, ap (λ (k : ExprRead). k.temporal) i)
-      go (Refused a) i = let z : true ≡ false = ap (λ (k : ExprRead). not k.fine) (sym i) ∙ q in let w : ◌≡◌ {A = ℕ} 0 1 = cc in absurd (omega arith)
-
 -- ---- 04
 
-property_refused_as : (o : Outcome Sofar) (a : Answer) (r : LineRead) (l : List ℕ) → o ≡ Refused a → r ≡ line_of (Refused a) → PropertyCame o r l
-property_refused_as o a r l e q = subst (λ (x : Outcome Sofar). PropertyCame x r l) (sym e) (record { line_is = q; property_is = tt })
-
-module _ (cs : List ℕ) (n : ℕ) (h : Held) (e : ExprRead) (s : Sofar) where
-  pub property_refused : (r : LineRead) (out : List ℕ) → e ≡ expr_of (whole_expr n cs) → not e.fine ≡ true → r ≡ line_of (Refused e.answer) → PropertyCame (property_line n cs s.deck) r out
+module _ (n : ℕ) (cs : List ℕ) (s : Sofar) (d : Stored) where
+  pub property_refused : (a : Refusal) (out : Stored) → Err a ≡ said_as written_of (whole_expr n cs) → Came (with_property d) (property_line n cs s.deck) (Err a) out
   unfolding property_line
-  property_refused r out p q f =
-      let z : property_line n cs s.deck ≡ Refused e.answer = simp (expr_stopped (whole_expr n cs) e p q, property_line) in
-      property_refused_as (property_line n cs s.deck) e.answer r out z f
+  property_refused a out w = came_refused (with_property d) (property_line n cs s.deck) a out (simp (said_refused written_of (whole_expr n cs) a w, property_line))
 
-  module _ (b : Bool) where
-    within : (y : Expr) → h ≡ held_of s → e.vars ≡ written y → b ≡ inside e.vars h.vars → inside (written y) s.deck.vars ≡ b
-    within y i v g = sym (g ∙ ap (λ (k : ℕ). inside k h.vars) v ∙ ap (λ (k : Held). inside (written y) k.vars) i)
+  module _ (f : d.vars ≡ s.deck.vars) (e : Written) (w : Ok e ≡ said_as written_of (whole_expr n cs)) where
+    within : (y : Expr) → e ≡ written_of y → (b : Bool) → b ≡ inside e.vars d.vars → inside (written y) s.deck.vars ≡ b
+    within y i b g = sym (g ∙ ap (λ (x : Written). inside x.vars d.vars) i ∙ ap (inside (written y)) f)
 
-    pub property_outside : (r : LineRead) (out : List ℕ) → h ≡ held_of s → e ≡ expr_of (whole_expr n cs) → not e.fine ≡ false → b ≡ inside e.vars h.vars → not b ≡ true → r ≡ line_of (Refused (Outside 1 n)) → PropertyCame (property_line n cs s.deck) r out
+    pub property_outside : (out : Stored) → false ≡ inside e.vars d.vars → Came (with_property d) (property_line n cs s.deck) (Err (Outside 1 n)) out
     unfolding property_line
-    property_outside r out i p q g u f =
-        let y = expr_got (whole_expr n cs) e p q in
-        let w : not (inside (written y.0) s.deck.vars) ≡ true = ap not (within y.0 i y.3 g) ∙ u in
-        let z : property_line n cs s.deck ≡ Refused (Outside 1 n) = simp (y.1, w, property_line) in
-        property_refused_as (property_line n cs s.deck) (Outside 1 n) r out z f
+    property_outside out g = let y = said_got written_of (whole_expr n cs) e w in came_refused (with_property d) (property_line n cs s.deck) (Outside 1 n) out (simp (y.1, within y.0 y.2 false g, property_line))
 
-    pub property_many : (r : LineRead) (out : List ℕ) → h ≡ held_of s → e ≡ expr_of (whole_expr n cs) → not e.fine ≡ false → b ≡ inside e.vars h.vars → not b ≡ false → 128 < e.nodes → r ≡ line_of (Refused (ManyNodes n)) → PropertyCame (property_line n cs s.deck) r out
+    pub property_many : (out : Stored) → true ≡ inside e.vars d.vars → 128 < e.nodes → Came (with_property d) (property_line n cs s.deck) (Err (ManyNodes n)) out
     unfolding property_line
-    property_many r out i p q g u m f =
-        let y = expr_got (whole_expr n cs) e p q in
-        let w : not (inside (written y.0) s.deck.vars) ≡ false = ap not (within y.0 i y.3 g) ∙ u in
-        let l : 128 < nodes y.0 = omega (arith, m, y.2) in
-        let z : property_line n cs s.deck ≡ Refused (ManyNodes n) = simp (y.1, w, lt-ltb 128 (nodes y.0) l, property_line) in
-        property_refused_as (property_line n cs s.deck) (ManyNodes n) r out z f
+    property_many out g m =
+        let y = said_got written_of (whole_expr n cs) e w in
+        let l : 128 < nodes y.0 = omega (arith, m, ap (λ (x : Written). x.nodes) y.2) in
+        came_refused (with_property d) (property_line n cs s.deck) (ManyNodes n) out (simp (y.1, within y.0 y.2 true g, lt-ltb 128 (nodes y.0) l, property_line))
 
-    property-stored : (property out : List ℕ) → h ≡ held_of s → property ≡ replicate 128 0 → e ≡ expr_of (whole_expr n cs) → not e.fine ≡ false → b ≡ inside e.vars h.vars → not b ≡ false → e.nodes ≤ 128 → out ≡ splice 0 (nodes_of e.nodes cs) property → PropertyCame (property_line n cs s.deck) (went (held 4 h.vars h.initials h.equations h.used h.last h.covered e.nodes)) out
+    pub property-stored : (h : Held) (out : List ℕ) → h ≡ held_of s → true ≡ inside e.vars d.vars → e.nodes ≤ 128 → out ≡ splice 0 (nodes_of e.nodes cs) d.property → (Ok (record { due = Count; used = h.used; last = h.last; covered = h.covered }) ≡ line_of (property_line n cs s.deck)) × (d.property ≡ replicate 128 0 → Came (with_property d) (property_line n cs s.deck) (Ok (record { due = Count; used = h.used; last = h.last; covered = h.covered })) (lent d.vars d.inits d.initials d.equations out e.nodes))
     unfolding property_line
-    property-stored property out i j p q g u m f =
-        let d : Deck = s.deck in
-        let y = expr_got (whole_expr n cs) e p q in
-        let w : not (inside (written y.0) d.vars) ≡ false = ap not (within y.0 i y.3 g) ∙ u in
-        let l : nodes y.0 ≤ 128 = omega (arith, m, y.2) in
-        let z : property_line n cs d ≡ Got (record { due = DueCount; deck = record { vars = d.vars; inits = d.inits; equations = d.equations; property = y.0 } }) = simp (y.1, w, le-ltb 128 (nodes y.0) l, property_line) in
-        let stored : nodes_of e.nodes cs ≡ code y.0 = ap (λ (k : ℕ). nodes_of k cs) y.2 ∙ filled n cs y.0 y.1 in
-        subst (λ (o : Outcome Sofar). PropertyCame o (went (held 4 h.vars h.initials h.equations h.used h.last h.covered e.nodes)) out) (sym z)
-        (record {
-          line_is = ap (λ (k : ℕ). went (held 4 h.vars h.initials h.equations h.used h.last h.covered k)) y.2 ∙ ap (λ (k : Held). went (held 4 k.vars k.initials k.equations k.used k.last k.covered (nodes y.0))) i;
-          property_is = f ∙ ap (λ (k : List ℕ). splice 0 k property) stored ∙ ap (splice 0 (code y.0)) (j ∙ sym (padded-nil 128)) ∙ padded-append 128 [] (code y.0);
-        })
-
-pub property_fine : (line : List ℕ) (n : ℕ) (h : Held) (e : ExprRead) (s : Sofar) (b : Bool) (property out : List ℕ) → h ≡ held_of s → property ≡ replicate 128 0 → length property ≡ 128 → e ≡ expr_of (whole_expr n (drop 2 line)) → not e.fine ≡ false → (not e.fine ≡ false → Kept line 2 0 e.nodes property out) → b ≡ inside e.vars h.vars → not b ≡ false → e.nodes ≤ 128 → PropertyCame (property_line n (drop 2 line) s.deck) (went (held 4 h.vars h.initials h.equations h.used h.last h.covered e.nodes)) out
-property_fine line n h e s b property out i j l p q k g u m = property-stored (drop 2 line) n h e s b property out i j p q g u m ((k q).nodes_are (omega arith))
+    property-stored h out i g m st =
+        let D : Deck = s.deck in
+        let y = said_got written_of (whole_expr n cs) e w in
+        let many : e.nodes ≡ nodes y.0 = ap (λ (x : Written). x.nodes) y.2 in
+        let l : nodes y.0 ≤ 128 = omega arith in
+        let z : property_line n cs D ≡ Got (record { due = DueCount; deck = record { vars = D.vars; inits = D.inits; equations = D.equations; property = y.0 } }) = simp (y.1, within y.0 y.2 true g, le-ltb 128 (nodes y.0) l, property_line) in
+        let said : Ok (record { due = Count; used = h.used; last = h.last; covered = h.covered }) ≡ line_of (Got (record { due = DueCount; deck = record { vars = D.vars; inits = D.inits; equations = D.equations; property = y.0 } })) = ap (λ (x : Held). Ok (record { due = Count; used = x.used; last = x.last; covered = x.covered })) i in (
+          said ∙ ap line_of (sym z),
+          λ zeros.
+              let row : out ≡ padded 128 (code y.0) =
+              st
+              ∙ ap (λ (x : List ℕ). splice 0 x d.property) (ap (λ (k : ℕ). nodes_of k cs) many ∙ filled n cs y.0 y.1)
+              ∙ ap (splice 0 (code y.0)) (zeros ∙ sym (padded-nil 128))
+              ∙ padded-append 128 [] (code y.0)
+              in
+              came_got (with_property d) (property_line n cs D) _ _ _ z said
+              (ap (λ (x : List ℕ). lent d.vars d.inits d.initials d.equations x e.nodes) row ∙ ap (λ (x : ℕ). lent d.vars d.inits d.initials d.equations (padded 128 (code y.0)) x) many),
+        )
 
 -- ---- one equation more
 
@@ -266,156 +261,14 @@ equation_is n [] d = refl
 equation_is n (c ∷ []) d = refl
 equation_is n (c ∷ e ∷ cs) d = refl
 
-module _ (line : List ℕ) (n v : ℕ) (h : Held) (s : Sofar) where
-  high : v ≡ kind_of (drop 2 line) → 64 ≤ v → equation_line n (drop 2 line) s.deck ≡ Refused (BadFrame 1 n)
-  high e k = equation_is n (drop 2 line) s.deck ∙ simp (le-ltb (kind_of (drop 2 line)) 64 (rw (← e) k))
+-- The deck with one equation more.
+abbrev added : Deck → Equation → Sofar
+added d q = record { due = DueEquation; deck = record { vars = d.vars; inits = d.inits; equations = d.equations ++ (q ∷ []); property = d.property } }
 
-  low : h ≡ held_of s → v ≡ kind_of (drop 2 line) → v < 64 → v < h.last → equation_line n (drop 2 line) s.deck ≡ Refused (BadFrame 1 n)
-  low i e k l =
-      let w : kind_of (drop 2 line) < last_left s.deck.equations = omega (arith, l, e, ap (λ (y : Held). y.last) i) in
-      equation_is n (drop 2 line) s.deck ∙ simp (lt-ltb (kind_of (drop 2 line)) 64 (rw (← e) k), lt-ltb (kind_of (drop 2 line)) (last_left s.deck.equations) w)
-
-  rises : h ≡ held_of s → v ≡ kind_of (drop 2 line) → v < 64 → h.last ≤ v → equation_line n (drop 2 line) s.deck ≡ afterwards (whole_expr n (drop 4 line)) (λ e. with_equation n s.deck (record { left = v; right = e }))
-  rises i e k l =
-      let w : last_left s.deck.equations ≤ kind_of (drop 2 line) = omega (arith, l, e, ap (λ (y : Held). y.last) i) in
-      let z : equation_line n (drop 2 line) s.deck ≡ afterwards (whole_expr n (drop 2 (drop 2 line))) (λ e. with_equation n s.deck (record { left = kind_of (drop 2 line); right = e })) =
-      equation_is n (drop 2 line) s.deck ∙ simp (lt-ltb (kind_of (drop 2 line)) 64 (rw (← e) k), le-ltb (kind_of (drop 2 line)) (last_left s.deck.equations) w)
-      in
-      z
-      ∙ ap (λ (l : List ℕ). afterwards (whole_expr n l) (λ e. with_equation n s.deck (record { left = kind_of (drop 2 line); right = e }))) (drop-drop 2 2 line)
-      ∙ ap (λ (k : ℕ). afterwards (whole_expr n (drop 4 line)) (λ e. with_equation n s.deck (record { left = k; right = e }))) (sym e)
-
-  pub equation_high : (r : LineRead) → v ≡ kind_of (drop 2 line) → 64 ≤ v → r ≡ line_of (Refused (BadFrame 1 n)) → r ≡ line_of (equation_line n (drop 2 line) s.deck)
-  equation_high r e k q = q ∙ ap line_of (sym (high e k))
-
-  pub equation_falls : (r : LineRead) → h ≡ held_of s → v ≡ kind_of (drop 2 line) → v < 64 → v < h.last → r ≡ line_of (Refused (BadFrame 1 n)) → r ≡ line_of (equation_line n (drop 2 line) s.deck)
-  equation_falls r i e k l q = q ∙ ap line_of (sym (low i e k l))
-
-  module _ (e : ExprRead) where
-    pub equation_refused : (r : LineRead) → h ≡ held_of s → v ≡ kind_of (drop 2 line) → v < 64 → h.last ≤ v → e ≡ expr_of (whole_expr n (drop 4 line)) → not e.fine ≡ true → r ≡ line_of (Refused e.answer) → r ≡ line_of (equation_line n (drop 2 line) s.deck)
-    equation_refused r i p k l x y q = q ∙ ap line_of (sym (rises i p k l ∙ ap (λ (o : Outcome Expr). afterwards o (λ e. with_equation n s.deck (record { left = v; right = e }))) (expr_stopped (whole_expr n (drop 4 line)) e x y)))
-
-    pub equation_passed : (r : LineRead) → h ≡ held_of s → v ≡ kind_of (drop 2 line) → v < 64 → h.last ≤ v → e ≡ expr_of (whole_expr n (drop 4 line)) → not e.fine ≡ false → ((t : Sofar) (x : Expr) → h ≡ held_of t → e ≡ expr_of (Got x) → r ≡ line_of (with_equation n t.deck (record { left = v; right = x }))) → r ≡ line_of (equation_line n (drop 2 line) s.deck)
-    equation_passed r i p k l x y f =
-        let w = expr_got (whole_expr n (drop 4 line)) e x y in
-        f s w.0 i (x ∙ ap expr_of w.1) ∙ ap line_of (sym (rises i p k l ∙ ap (λ (o : Outcome Expr). afterwards o (λ e. with_equation n s.deck (record { left = v; right = e }))) w.1))
-
-module _ (n v : ℕ) (h : Held) (s : Sofar) (e : ExprRead) (x : Expr) where
-  abbrev q : Equation
-  q = record { left = v; right = x }
-
-  -- What 9, 10, 13 and 14 are asked of.
-  record Asked (d : Deck) (m g : Bool) : Type 0 where
-    pub nodes_as : e.nodes ≡ nodes x
-    pub left_as : has d.vars v ≡ m
-    pub vars_as : inside (written x) d.vars ≡ g
-    pub temporal_as : temporal x ≡ e.temporal
-
-  asked : (m g : Bool) → h ≡ held_of s → e ≡ expr_of (Got x) → m ≡ has h.vars v → g ≡ inside e.vars h.vars → Asked s.deck m g
-  asked m g i p a b =
-      record {
-        nodes_as = ap (λ (k : ExprRead). k.nodes) p;
-        left_as = sym (a ∙ ap (λ (y : Held). has y.vars v) i);
-        vars_as = sym (b ∙ ap (λ (k : ExprRead). inside k.vars h.vars) p ∙ ap (λ (y : Held). inside (written x) y.vars) i);
-        temporal_as = sym (ap (λ (k : ExprRead). k.temporal) p);
-      }
-
-  module _ (m : Bool) where
-    pub equation_left : (r : LineRead) → h ≡ held_of s → e ≡ expr_of (Got x) → m ≡ has h.vars v → not m ≡ true → r ≡ line_of (Refused (Outside 1 n)) → r ≡ line_of (with_equation n s.deck q)
-    unfolding with_equation
-    equation_left r i p a t f =
-        let w : Asked s.deck m (inside e.vars h.vars) = asked m (inside e.vars h.vars) i p a refl in
-        let z : with_equation n s.deck q ≡ Refused (Outside 1 n) = simp (ap not w.left_as ∙ t, with_equation) in
-        f ∙ ap line_of (sym z)
-
-    module _ (g : Bool) where
-      pub equation_vars : (r : LineRead) → h ≡ held_of s → e ≡ expr_of (Got x) → m ≡ has h.vars v → not m ≡ false → g ≡ inside e.vars h.vars → not g ≡ true → r ≡ line_of (Refused (Outside 1 n)) → r ≡ line_of (with_equation n s.deck q)
-      unfolding with_equation
-      equation_vars r i p a t b u f =
-          let w : Asked s.deck m g = asked m g i p a b in
-          let z : with_equation n s.deck q ≡ Refused (Outside 1 n) = simp (ap not w.left_as ∙ t, ap not w.vars_as ∙ u, with_equation) in
-          f ∙ ap line_of (sym z)
-
-      pub equation_temporal : (r : LineRead) → h ≡ held_of s → e ≡ expr_of (Got x) → m ≡ has h.vars v → not m ≡ false → g ≡ inside e.vars h.vars → not g ≡ false → e.temporal ≡ true → r ≡ line_of (Refused (Temporal n)) → r ≡ line_of (with_equation n s.deck q)
-      unfolding with_equation
-      equation_temporal r i p a t b u c f =
-          let w : Asked s.deck m g = asked m g i p a b in
-          let z : with_equation n s.deck q ≡ Refused (Temporal n) = simp (ap not w.left_as ∙ t, ap not w.vars_as ∙ u, w.temporal_as ∙ c, with_equation) in
-          f ∙ ap line_of (sym z)
-
-      pub equation_many : (r : LineRead) → h ≡ held_of s → e ≡ expr_of (Got x) → m ≡ has h.vars v → not m ≡ false → g ≡ inside e.vars h.vars → not g ≡ false → e.temporal ≡ false → 256 < h.equations + 1 → r ≡ line_of (Refused (ManyEquations n)) → r ≡ line_of (with_equation n s.deck q)
-      unfolding with_equation
-      equation_many r i p a t b u c d f =
-          let w : Asked s.deck m g = asked m g i p a b in
-          let many : 256 < length s.deck.equations + 1 = omega (arith, d, ap (λ (j : Held). j.equations) i) in
-          let z : with_equation n s.deck q ≡ Refused (ManyEquations n) = simp (ap not w.left_as ∙ t, ap not w.vars_as ∙ u, w.temporal_as ∙ c, lt-ltb 256 (length s.deck.equations + 1) many, with_equation) in
-          f ∙ ap line_of (sym z)
-
-      pub equation_nodes_lem : (r : LineRead) → h ≡ held_of s → e ≡ expr_of (Got x) → m ≡ has h.vars v → not m ≡ false → g ≡ inside e.vars h.vars → not g ≡ false → e.temporal ≡ false → h.equations + 1 ≤ 256 → 2048 < h.used + e.nodes → r ≡ line_of (Refused (ManyNodes n)) → r ≡ line_of (with_equation n s.deck q)
-      unfolding with_equation
-      equation_nodes_lem r i p a t b u c d k f =
-          let w : Asked s.deck m g = asked m g i p a b in
-          let few : length s.deck.equations + 1 ≤ 256 = omega (arith, d, ap (λ (j : Held). j.equations) i) in
-          let large : 2048 < total_nodes s.deck.equations + nodes x = omega (arith, k, w.nodes_as, ap (λ (j : Held). j.used) i) in
-          let z : with_equation n s.deck q ≡ Refused (ManyNodes n) = simp (ap not w.left_as ∙ t, ap not w.vars_as ∙ u, w.temporal_as ∙ c, le-ltb 256 (length s.deck.equations + 1) few, lt-ltb 2048 (total_nodes s.deck.equations + nodes x) large, with_equation) in
-          f ∙ ap line_of (sym z)
-
-      pub equation_taken : (only-v c : ℕ) → v < 64 → h ≡ held_of s → e ≡ expr_of (Got x) → m ≡ has h.vars v → not m ≡ false → g ≡ inside e.vars h.vars → not g ≡ false → e.temporal ≡ false → h.equations + 1 ≤ 256 → h.used + e.nodes ≤ 2048 → only-v ≡ only v % 2 ^ 64 → c ≡ union h.covered only-v → went (held 3 h.vars h.initials (h.equations + 1) (h.used + e.nodes) v c 0) ≡ line_of (with_equation n s.deck q)
-      unfolding with_equation
-      equation_taken only-v c l i p a t b u o d f z j =
-          let w : Asked s.deck m g = asked m g i p a b in
-          let D : Deck = s.deck in
-          let few : length D.equations + 1 ≤ 256 = omega (arith, d, ap (λ (j : Held). j.equations) i) in
-          let small : total_nodes D.equations + nodes x ≤ 2048 = omega (arith, f, w.nodes_as, ap (λ (j : Held). j.used) i) in
-          let got : with_equation n D q ≡ Got (record { due = DueEquation; deck = record { vars = D.vars; inits = D.inits; equations = D.equations ++ (q ∷ []); property = D.property } }) = simp (ap not w.left_as ∙ t, ap not w.vars_as ∙ u, w.temporal_as ∙ o, le-ltb 256 (length D.equations + 1) few, le-ltb 2048 (total_nodes D.equations + nodes x) small, with_equation) in
-          let count : h.equations + 1 ≡ length (D.equations ++ (q ∷ [])) = omega (arith, ap (λ (j : Held). j.equations) i, length-append D.equations (q ∷ [])) in
-          let used : h.used + e.nodes ≡ total_nodes (D.equations ++ (q ∷ [])) = omega (arith, ap (λ (j : Held). j.used) i, w.nodes_as, total_more q D.equations) in
-          let last : v ≡ last_left (D.equations ++ (q ∷ [])) = sym (last_more q D.equations) in
-          let covered : c ≡ left_set (D.equations ++ (q ∷ [])) = j ∙ ap (union h.covered) (only-within v only-v z l) ∙ ap (λ (y : Held). union y.covered (only v)) i ∙ sym (left_more q D.equations) in
-          ap (λ (y : ℕ). went (held 3 h.vars h.initials y (h.used + e.nodes) v c 0)) count
-          ∙ ap (λ (y : ℕ). went (held 3 h.vars h.initials (length (D.equations ++ (q ∷ []))) y v c 0)) used
-          ∙ ap (λ (y : ℕ). went (held 3 h.vars h.initials (length (D.equations ++ (q ∷ []))) (total_nodes (D.equations ++ (q ∷ []))) y c 0)) last
-          ∙ ap (λ (y : ℕ). went (held 3 h.vars h.initials (length (D.equations ++ (q ∷ []))) (total_nodes (D.equations ++ (q ∷ []))) (last_left (D.equations ++ (q ∷ []))) y 0)) covered
-          ∙ ap (λ (y : Held). went (held 3 y.vars y.initials (length (D.equations ++ (q ∷ []))) (total_nodes (D.equations ++ (q ∷ []))) (last_left (D.equations ++ (q ∷ []))) (left_set (D.equations ++ (q ∷ []))) 0)) i
-          ∙ ap line_of (sym got)
-
--- A line refused has no room to show, and nothing stored.
-refused_fine : {P : Type 0} (r : LineRead) (a : Answer) → r ≡ line_of (Refused a) → r.fine ≡ true → P
-refused_fine r a e q = let z : false ≡ true = sym (ap (λ (k : LineRead). k.fine) e) ∙ q in let w : ◌≡◌ {A = ℕ} 0 1 = cc in absurd (omega arith)
-
-pub no_room : (v : ℕ) (h : Held) (e : ExprRead) (r : LineRead) (a : Answer) → r ≡ line_of (Refused a) → r.fine ≡ true → Room v h e r
-no_room v h e r a = refused_fine r a
-
-pub none_stored : (line : List ℕ) (h : Held) (r : LineRead) (was out : List ℕ) (a : Answer) → r ≡ line_of (Refused a) → r.fine ≡ true → Stored line h r was out
-none_stored line h r was out a = refused_fine r a
-
--- A variable's pair stands within the line.
-pub variable-within : (line : List ℕ) (v : ℕ) → v ≡ kind_of (drop 2 line) → v < 64 → 4 ≤ length line
-variable-within line v e h = pair_inside line 2 v e (omega arith)
-
--- A line that passed 13 and 14 has room.
-pub has_room : (v : ℕ) (h : Held) (e : ExprRead) (c : ℕ) → h.equations + 1 ≤ 256 → h.used + e.nodes ≤ 2048 → Room v h e (went (held 3 h.vars h.initials (h.equations + 1) (h.used + e.nodes) v c 0))
-has_room v h e c q m = record { few = omega arith; most = m; used_is = refl; last_is = refl }
-
--- The nodes of an equation that has room are stored.
-pub nodes-stored : (line : List ℕ) (v : ℕ) (h : Held) (e : ExprRead) (r : LineRead) (was out : List ℕ) → v < 64 → length was ≡ 2048 → not e.fine ≡ false → (not e.fine ≡ false → Kept line 4 h.used e.nodes was out) → (r.fine ≡ true → Room v h e r) → r.fine ≡ true → Stored line h r was out
-nodes-stored line v h e r was out p w f k g q =
-    let room : Room v h e r = g q in
-    let own : e.nodes ≡ r.held.used - h.used = omega (arith, room.used_is) in
-    record {
-      few = room.few;
-      most = room.most;
-      left-fits = omega (arith, p, room.last_is);
-      nodes_are = (k f).nodes_are (omega (arith, room.used_is, room.most, w)) ∙ ap (λ (x : ℕ). splice h.used (nodes_of x (drop 4 line)) was) own;
-    }
-
--- ---- 03 stored
-
-with_got : (n : ℕ) (d : Deck) (q : Equation) (t : Sofar) → with_equation n d q ≡ Got t → t.deck.equations ≡ d.equations ++ (q ∷ [])
+with_got : (n : ℕ) (d : Deck) (q : Equation) (t : Sofar) → with_equation n d q ≡ Got t → t ≡ added d q
 unfolding with_equation
 with_got n d q t e =
-    let last : Sofar = record { due = DueEquation; deck = record { vars = d.vars; inits = d.inits; equations = d.equations ++ (q ∷ []); property = d.property } } in
-    let r4 : Outcome Sofar = refuse (ltb 2048 (total_nodes d.equations + nodes q.right)) (ManyNodes n) (Got last) in
+    let r4 : Outcome Sofar = refuse (ltb 2048 (total_nodes d.equations + nodes q.right)) (ManyNodes n) (Got (added d q)) in
     let r3 : Outcome Sofar = refuse (ltb 256 (length d.equations + 1)) (ManyEquations n) r4 in
     let r2 : Outcome Sofar = refuse (temporal q.right) (Temporal n) r3 in
     let r1 : Outcome Sofar = refuse (not (inside (written q.right) d.vars)) (Outside 1 n) r2 in
@@ -423,68 +276,161 @@ with_got n d q t e =
     let e2 : r2 ≡ Got t = refuse_got (not (inside (written q.right) d.vars)) (Outside 1 n) r2 t e1 in
     let e3 : r3 ≡ Got t = refuse_got (temporal q.right) (Temporal n) r3 t e2 in
     let e4 : r4 ≡ Got t = refuse_got (ltb 256 (length d.equations + 1)) (ManyEquations n) r4 t e3 in
-    let e5 : Got last ≡ Got t = refuse_got (ltb 2048 (total_nodes d.equations + nodes q.right)) (ManyNodes n) (Got last) t e4 in
-    let e6 : last ≡ t = cc in
-    sym (ap (λ (x : Sofar). x.deck.equations) e6)
+    let e5 : Got (added d q) ≡ Got t = refuse_got (ltb 2048 (total_nodes d.equations + nodes q.right)) (ManyNodes n) (Got (added d q)) t e4 in
+    sym (got_eq e5)
 
--- A 03 that was taken adds its equation behind the others.
-equation_got : (n : ℕ) (cs : List ℕ) (d : Deck) (t : Sofar) → equation_line n cs d ≡ Got t → (e : Expr) × (whole_expr n (drop 2 cs) ≡ Got e) × (t.deck.equations ≡ d.equations ++ (record { left = kind_of cs; right = e } ∷ []))
-equation_got n cs d t q =
-    let f : Expr → Outcome Sofar = λ e. with_equation n d (record { left = kind_of cs; right = e }) in
-    let inner : Outcome Sofar = refuse (ltb (kind_of cs) (last_left d.equations)) (BadFrame 1 n) (afterwards (whole_expr n (drop 2 cs)) f) in
-    let q1 : inner ≡ Got t = refuse_got (not (ltb (kind_of cs) 64)) (BadFrame 1 n) inner t (sym (equation_is n cs d) ∙ q) in
-    let q2 : afterwards (whole_expr n (drop 2 cs)) f ≡ Got t = refuse_got (ltb (kind_of cs) (last_left d.equations)) (BadFrame 1 n) (afterwards (whole_expr n (drop 2 cs)) f) t q1 in
-    let w = afterwards_got (whole_expr n (drop 2 cs)) f t q2 in
-    (w.0, w.1, with_got n d (record { left = kind_of cs; right = w.0 }) t w.2)
+module _ (n v : ℕ) (h : Held) (s : Sofar) (e : Written) (x : Expr) (vars count : ℕ) (i : h ≡ held_of s) (a : vars ≡ s.deck.vars) (b : count ≡ length s.deck.equations) (p : e ≡ written_of x) where
+  abbrev the_equation : Equation
+  the_equation = record { left = v; right = x }
 
-module _ (line : List ℕ) (n : ℕ) (h : Held) (r : LineRead) (s : Sofar) where
-  -- What the judge of 03 promises.
-  abbrev pub Judged : Type 0
-  Judged = (s : Sofar) → h ≡ held_of s → r ≡ line_of (equation_line n (drop 2 line) s.deck)
+  left_as : (m : Bool) → m ≡ has vars v → has s.deck.vars v ≡ m
+  left_as m g = sym (g ∙ ap (λ (y : ℕ). has y v) a)
 
-  pub equation_stopped : (lefts ends nodes' : List ℕ) → h ≡ held_of s → Judged → not r.fine ≡ true → EquationCame (equation_line n (drop 2 line) s.deck) r lefts ends nodes'
-  equation_stopped lefts ends nodes' i j f = go (equation_line n (drop 2 line) s.deck) (j s i)
-    where
-      go : (o : Outcome Sofar) → r ≡ line_of o → EquationCame o r lefts ends nodes'
-      go (Got t) e = let z : false ≡ true = ap (λ (k : LineRead). not k.fine) (sym e) ∙ f in let w : ◌≡◌ {A = ℕ} 0 1 = cc in absurd (omega arith)
-      go (Refused a) e = record { line_is = e; equations_are = tt }
+  vars_as : (m : Bool) → m ≡ inside e.vars vars → inside (written x) s.deck.vars ≡ m
+  vars_as m g = sym (g ∙ ap (λ (y : Written). inside y.vars vars) p ∙ ap (inside (written x)) a)
 
-  pub equation_stored : (lefts ends nodes' lefts'' ends'' nodes'' : List ℕ) → h ≡ held_of s → HoldsEquations s.deck.equations lefts ends nodes' (length s.deck.equations) → Judged → (r.fine ≡ true → Stored line h r nodes' nodes'') → not r.fine ≡ false → lefts'' ≡ set lefts h.equations r.held.last → ends'' ≡ set ends h.equations r.held.used → EquationCame (equation_line n (drop 2 line) s.deck) r lefts'' ends'' nodes''
-  equation_stored lefts ends nodes' lefts'' ends'' nodes'' i a j k f p q = go (equation_line n (drop 2 line) s.deck) refl (j s i)
-    where
-      go : (o : Outcome Sofar) → equation_line n (drop 2 line) s.deck ≡ o → r ≡ line_of o → EquationCame o r lefts'' ends'' nodes''
-      go (Refused b) g e = let z : true ≡ false = ap (λ (k : LineRead). not k.fine) (sym e) ∙ f in let w : ◌≡◌ {A = ℕ} 0 1 = cc in absurd (omega arith)
-      go (Got t) g e =
-          let qs : List Equation = s.deck.equations in
-          let has : Stored line h r nodes' nodes'' = k (not-false r.fine f) in
-          let w = equation_got n (drop 2 line) s.deck t g in
-          let x : Equation = record { left = kind_of (drop 2 line); right = w.0 } in
-          let fill : whole_expr n (drop 4 line) ≡ Got w.0 = ap (whole_expr n) (sym (drop-drop 2 2 line)) ∙ w.1 in
-          let count : h.equations ≡ length qs = ap (λ (y : Held). y.equations) i in
-          let before : h.used ≡ total_nodes qs = ap (λ (y : Held). y.used) i in
-          let last : r.held.last ≡ x.left = ap (λ (y : LineRead). y.held.last) e ∙ ap last_left w.2 ∙ last_more x qs in
-          let used : r.held.used ≡ total_nodes qs + nodes w.0 = ap (λ (y : LineRead). y.held.used) e ∙ ap total_nodes w.2 ∙ total_more x qs in
-          let own : r.held.used - h.used ≡ nodes w.0 = omega (arith, used, before) in
-          let more = equations_more qs x lefts ends nodes' (length qs) (omega (arith, has.few, count)) a in
-          let pl : lefts'' ≡ set lefts (length qs) x.left = p ∙ ap (λ (y : ℕ). set lefts y r.held.last) count ∙ ap (set lefts (length qs)) last in
-          let pe : ends'' ≡ set ends (length qs) (total_nodes qs + nodes w.0) = q ∙ ap (λ (y : ℕ). set ends y r.held.used) count ∙ ap (set ends (length qs)) used in
-          let pn : nodes'' ≡ splice (total_nodes qs) (code w.0) nodes' = has.nodes_are ∙ ap (λ (y : ℕ). splice y (nodes_of (r.held.used - h.used) (drop 4 line)) nodes') before ∙ ap (λ (y : List ℕ). splice (total_nodes qs) y nodes') (ap (λ (y : ℕ). nodes_of y (drop 4 line)) own ∙ filled n (drop 4 line) w.0 fill) in
-          record {
-            line_is = e;
-            equations_are =
-                subst (λ (y : List Equation). HoldsEquations y lefts'' ends'' nodes'' (length y)) (sym w.2)
-                (record { lefts_are = pl ∙ more.lefts_are; ends_are = pe ∙ more.ends_are; nodes_are = pn ∙ more.nodes_are; count_is = refl });
-          }
+  temporal_as : (m : Bool) → e.temporal ≡ m → temporal x ≡ m
+  temporal_as m g = sym (ap (λ (y : Written). y.temporal) p) ∙ g
 
-module _ (line : List ℕ) (h : Held) (r : LineRead) (was out : List ℕ) where
-  pub last_fits : (r.fine ≡ true → Stored line h r was out) → not r.fine ≡ false → r.held.last < 2 ^ 16
-  last_fits f e = omega (arith, (f (not-false r.fine e)).left-fits)
+  refused_line : (z : Refusal) → with_equation n s.deck the_equation ≡ Refused z → Err z ≡ line_of (with_equation n s.deck the_equation)
+  refused_line z w = ap line_of (sym w)
 
-  pub used-fits : (r.fine ≡ true → Stored line h r was out) → not r.fine ≡ false → r.held.used < 2 ^ 16
-  used-fits f e = omega (arith, (f (not-false r.fine e)).most)
+  pub equation_left : false ≡ has vars v → Err (Outside 1 n) ≡ line_of (with_equation n s.deck (record { left = v; right = x }))
+  unfolding with_equation
+  equation_left m = refused_line (Outside 1 n) (simp (left_as false m, with_equation))
 
-  pub equation_place : (l : List ℕ) → length l ≡ 256 → (r.fine ≡ true → Stored line h r was out) → not r.fine ≡ false → h.equations < length l
-  equation_place l k f e = omega (arith, k, (f (not-false r.fine e)).few)
+  module _ (m : true ≡ has vars v) where
+    pub equation_vars : false ≡ inside e.vars vars → Err (Outside 1 n) ≡ line_of (with_equation n s.deck (record { left = v; right = x }))
+    unfolding with_equation
+    equation_vars g = refused_line (Outside 1 n) (simp (left_as true m, vars_as false g, with_equation))
 
-pub length-stored : (l out : List ℕ) (i x k : ℕ) → out ≡ set l i x → length l ≡ k → length out ≡ k
-length-stored l out i x k e h = ap (λ (y : List ℕ). length y) e ∙ length-set l i x ∙ h
+    module _ (g : true ≡ inside e.vars vars) where
+      pub equation_temporal : e.temporal ≡ true → Err (Temporal n) ≡ line_of (with_equation n s.deck (record { left = v; right = x }))
+      unfolding with_equation
+      equation_temporal c = refused_line (Temporal n) (simp (left_as true m, vars_as true g, temporal_as true c, with_equation))
+
+      module _ (c : e.temporal ≡ false) where
+        pub equation_many : 256 < count + 1 → Err (ManyEquations n) ≡ line_of (with_equation n s.deck (record { left = v; right = x }))
+        unfolding with_equation
+        equation_many d =
+            let many : 256 < length s.deck.equations + 1 = omega arith in
+            refused_line (ManyEquations n) (simp (left_as true m, vars_as true g, temporal_as false c, lt-ltb 256 (length s.deck.equations + 1) many, with_equation))
+
+        module _ (d : count + 1 ≤ 256) where
+          few : length s.deck.equations + 1 ≤ 256
+          few = omega arith
+
+          own : e.nodes ≡ nodes x
+          own = ap (λ (y : Written). y.nodes) p
+
+          before : h.used ≡ total_nodes s.deck.equations
+          before = ap (λ (y : Held). y.used) i
+
+          pub equation_nodes_lem : 2048 < h.used + e.nodes → Err (ManyNodes n) ≡ line_of (with_equation n s.deck (record { left = v; right = x }))
+          unfolding with_equation
+          equation_nodes_lem k =
+              let large : 2048 < total_nodes s.deck.equations + nodes x = omega (arith, own, before) in
+              refused_line (ManyNodes n) (simp (left_as true m, vars_as true g, temporal_as false c, le-ltb 256 (length s.deck.equations + 1) few, lt-ltb 2048 (total_nodes s.deck.equations + nodes x) large, with_equation))
+
+          pub equation_taken : (only-v w : ℕ) → v < 64 → h.used + e.nodes ≤ 2048 → only-v ≡ only v % 2 ^ 64 → w ≡ union h.covered only-v → Ok (record { due = EquationKind; used = h.used + e.nodes; last = v; covered = w }) ≡ line_of (with_equation n s.deck (record { left = v; right = x }))
+          unfolding with_equation
+          equation_taken only-v w l k z j =
+              let D : Deck = s.deck in
+              let small : total_nodes D.equations + nodes x ≤ 2048 = omega (arith, own, before) in
+              let got : with_equation n D the_equation ≡ Got (added D the_equation) = simp (left_as true m, vars_as true g, temporal_as false c, le-ltb 256 (length D.equations + 1) few, le-ltb 2048 (total_nodes D.equations + nodes x) small, with_equation) in
+              let used : h.used + e.nodes ≡ total_nodes (D.equations ++ (the_equation ∷ [])) = omega (arith, own, before, total_more the_equation D.equations) in
+              let last : v ≡ last_left (D.equations ++ (the_equation ∷ [])) = sym (last_more the_equation D.equations) in
+              let covered : w ≡ left_set (D.equations ++ (the_equation ∷ [])) = j ∙ ap (union h.covered) (only-within v only-v z l) ∙ ap (λ (y : Held). union y.covered (only v)) i ∙ sym (left_more the_equation D.equations) in
+              ap (λ (y : ℕ). Ok (record { due = EquationKind; used = y; last = v; covered = w })) used
+              ∙ ap (λ (y : ℕ). Ok (record { due = EquationKind; used = total_nodes (D.equations ++ (the_equation ∷ [])); last = y; covered = w })) last
+              ∙ ap (λ (y : ℕ). Ok (record { due = EquationKind; used = total_nodes (D.equations ++ (the_equation ∷ [])); last = last_left (D.equations ++ (the_equation ∷ [])); covered = y })) covered
+              ∙ ap line_of (sym got)
+
+-- ---- 03 read and stored
+
+-- A variable's pair stands within the line.
+pub variable-within : (line : List ℕ) (v : ℕ) → Some v ≡ pair_read (kind_of (drop 2 line)) → 4 ≤ length line
+variable-within line v q = let p = some_below 256 (kind_of (drop 2 line)) v q in pair_inside line 2 (kind_of (drop 2 line)) refl p.0
+
+module _ (line : List ℕ) (n v : ℕ) (h : Held) (s : Sofar) (d : Stored) where
+  pub equation_none : None ≡ pair_read (kind_of (drop 2 line)) → (out : Stored) → Came (with_equations d) (equation_line n (drop 2 line) s.deck) (Err (BadFrame 1 n)) out
+  equation_none e out =
+      let w : 64 ≤ kind_of (drop 2 line) = omega (arith, none_below 256 (kind_of (drop 2 line)) e) in
+      came_refused (with_equations d) (equation_line n (drop 2 line) s.deck) (BadFrame 1 n) out (equation_is n (drop 2 line) s.deck ∙ simp (le-ltb (kind_of (drop 2 line)) 64 w))
+
+  module _ (q : Some v ≡ pair_read (kind_of (drop 2 line))) where
+    pair_is : v ≡ kind_of (drop 2 line)
+    pair_is = (some_below 256 (kind_of (drop 2 line)) v q).1
+
+    pub equation_high : 64 ≤ v → (out : Stored) → Came (with_equations d) (equation_line n (drop 2 line) s.deck) (Err (BadFrame 1 n)) out
+    equation_high k out = came_refused (with_equations d) (equation_line n (drop 2 line) s.deck) (BadFrame 1 n) out (equation_is n (drop 2 line) s.deck ∙ simp (le-ltb (kind_of (drop 2 line)) 64 (rw (← pair_is) k)))
+
+    pub equation_falls : h ≡ held_of s → v < 64 → v < h.last → (out : Stored) → Came (with_equations d) (equation_line n (drop 2 line) s.deck) (Err (BadFrame 1 n)) out
+    equation_falls i k l out =
+        let w : kind_of (drop 2 line) < last_left s.deck.equations = omega (arith, l, pair_is, ap (λ (y : Held). y.last) i) in
+        came_refused (with_equations d) (equation_line n (drop 2 line) s.deck) (BadFrame 1 n) out (equation_is n (drop 2 line) s.deck ∙ simp (lt-ltb (kind_of (drop 2 line)) 64 (rw (← pair_is) k), lt-ltb (kind_of (drop 2 line)) (last_left s.deck.equations) w))
+
+    rises : h ≡ held_of s → v < 64 → h.last ≤ v → equation_line n (drop 2 line) s.deck ≡ afterwards (whole_expr n (drop 4 line)) (λ e. with_equation n s.deck (record { left = v; right = e }))
+    rises i k l =
+        let w : last_left s.deck.equations ≤ kind_of (drop 2 line) = omega (arith, l, pair_is, ap (λ (y : Held). y.last) i) in
+        let z : equation_line n (drop 2 line) s.deck ≡ afterwards (whole_expr n (drop 2 (drop 2 line))) (λ e. with_equation n s.deck (record { left = kind_of (drop 2 line); right = e })) =
+        equation_is n (drop 2 line) s.deck ∙ simp (lt-ltb (kind_of (drop 2 line)) 64 (rw (← pair_is) k), le-ltb (kind_of (drop 2 line)) (last_left s.deck.equations) w)
+        in
+        z
+        ∙ ap (λ (l : List ℕ). afterwards (whole_expr n l) (λ e. with_equation n s.deck (record { left = kind_of (drop 2 line); right = e }))) (drop-drop 2 2 line)
+        ∙ ap (λ (k : ℕ). afterwards (whole_expr n (drop 4 line)) (λ e. with_equation n s.deck (record { left = k; right = e }))) (sym pair_is)
+
+    module _ (i : h ≡ held_of s) (k : v < 64) (l : h.last ≤ v) where
+      pub equation_refused : (a : Refusal) → Err a ≡ said_as written_of (whole_expr n (drop 4 line)) → (out : Stored) → Came (with_equations d) (equation_line n (drop 2 line) s.deck) (Err a) out
+      equation_refused a w out =
+          came_refused (with_equations d) (equation_line n (drop 2 line) s.deck) a out
+          (rises i k l ∙ ap (λ (o : Outcome Expr). afterwards o (λ e. with_equation n s.deck (record { left = v; right = e }))) (said_refused written_of (whole_expr n (drop 4 line)) a w))
+
+      module _ (e : Written) (w : Ok e ≡ said_as written_of (whole_expr n (drop 4 line))) where
+        the_expr : (x : Expr) × (whole_expr n (drop 4 line) ≡ Got x) × (e ≡ written_of x)
+        the_expr = said_got written_of (whole_expr n (drop 4 line)) e w
+
+        passed : (x : Expr) → whole_expr n (drop 4 line) ≡ Got x → equation_line n (drop 2 line) s.deck ≡ with_equation n s.deck (record { left = v; right = x })
+        passed x y = rises i k l ∙ ap (λ (o : Outcome Expr). afterwards o (λ e. with_equation n s.deck (record { left = v; right = e }))) y
+
+        -- What the judge of 03 promises of a result, at what was read.
+        abbrev pub Judged : ℕ → ℕ → Result Held Refusal → Type 0
+        Judged vars count r = (s : Sofar) (x : Expr) → h ≡ held_of s → vars ≡ s.deck.vars → count ≡ length s.deck.equations → e ≡ written_of x → r ≡ line_of (with_equation n s.deck (record { left = v; right = x }))
+
+        module _ (f : d.vars ≡ s.deck.vars) (hold : Hold s.deck.equations d.equations) where
+          pub equation_judged_not : (a : Refusal) (out : Stored) → Judged d.vars d.equations.count (Err a) → Came (with_equations d) (equation_line n (drop 2 line) s.deck) (Err a) out
+          equation_judged_not a out j =
+              let x = the_expr in
+              let z = j s x.0 i f hold.count_is x.2 in
+              came_refused (with_equations d) (equation_line n (drop 2 line) s.deck) a out (passed x.0 x.1 ∙ said_refused held_of (with_equation n s.deck (record { left = v; right = x.0 })) a z)
+
+          pub equation_stored : (r : Held) (out : List ℕ) → Kept line 4 h.used e.nodes d.equations.nodes out → Judged d.vars d.equations.count (Ok r) → Room v h e d r → Came (with_equations d) (equation_line n (drop 2 line) s.deck) (Ok r) (lent d.vars d.inits d.initials (record { count = d.equations.count + 1; lefts = set d.equations.lefts d.equations.count v; ends = set d.equations.ends d.equations.count r.used; nodes = out }) d.property d.size)
+          equation_stored r out kept j room =
+              let x = the_expr in
+              let D : Deck = s.deck in
+              let qs : List Equation = D.equations in
+              let q : Equation = record { left = v; right = x.0 } in
+              let got = said_got held_of (with_equation n D q) r (j s x.0 i f hold.count_is x.2) in
+              let t : got.0 ≡ added D q = with_got n D q got.0 got.1 in
+              let before : h.used ≡ total_nodes qs = ap (λ (y : Held). y.used) i in
+              let own : e.nodes ≡ nodes x.0 = ap (λ (y : Written). y.nodes) x.2 in
+              let used : r.used ≡ total_nodes qs + nodes x.0 = omega (arith, room.used_is, before, own) in
+              let more = equations_more qs q d.equations.lefts d.equations.ends d.equations.nodes d.equations.count (omega (arith, room.few, hold.count_is)) hold in
+              let lefts : set d.equations.lefts d.equations.count v ≡ (stored_equations (qs ++ (q ∷ []))).lefts = ap (λ (y : ℕ). set d.equations.lefts y v) hold.count_is ∙ more.lefts_are in
+              let ends : set d.equations.ends d.equations.count r.used ≡ (stored_equations (qs ++ (q ∷ []))).ends =
+              ap (λ (y : ℕ). set d.equations.ends y r.used) hold.count_is ∙ ap (set d.equations.ends (length qs)) used ∙ more.ends_are
+              in
+              let rows : out ≡ (stored_equations (qs ++ (q ∷ []))).nodes =
+              kept.nodes_are (omega (arith, room.used_is, room.most, ap (λ (y : List ℕ). length y) hold.nodes_are, padded-long 2048 (codes qs)))
+              ∙ ap (λ (y : ℕ). splice y (nodes_of e.nodes (drop 4 line)) d.equations.nodes) before
+              ∙ ap (λ (y : List ℕ). splice (total_nodes qs) y d.equations.nodes) (ap (λ (y : ℕ). nodes_of y (drop 4 line)) own ∙ filled n (drop 4 line) x.0 x.1)
+              ∙ more.nodes_are
+              in
+              let count : d.equations.count + 1 ≡ length (qs ++ (q ∷ [])) = omega (arith, hold.count_is, length-append qs (q ∷ [])) in
+              came_got (with_equations d) (equation_line n (drop 2 line) D) (added D q) _ _
+              (passed x.0 x.1 ∙ got.1 ∙ ap (λ (y : Sofar). Got y) t)
+              (ap (λ (y : Held). Ok y) got.2 ∙ ap (λ (y : Sofar). Ok (held_of y)) t)
+              (ap (λ (y : List ℕ). lent d.vars d.inits d.initials (record { count = d.equations.count + 1; lefts = y; ends = set d.equations.ends d.equations.count r.used; nodes = out }) d.property d.size) lefts
+              ∙ ap (λ (y : List ℕ). lent d.vars d.inits d.initials (record { count = d.equations.count + 1; lefts = (stored_equations (qs ++ (q ∷ []))).lefts; ends = y; nodes = out }) d.property d.size) ends
+              ∙ ap (λ (y : List ℕ). lent d.vars d.inits d.initials (record { count = d.equations.count + 1; lefts = (stored_equations (qs ++ (q ∷ []))).lefts; ends = (stored_equations (qs ++ (q ∷ []))).ends; nodes = y }) d.property d.size) rows
+              ∙ ap (λ (y : ℕ). lent d.vars d.inits d.initials (record { count = y; lefts = (stored_equations (qs ++ (q ∷ []))).lefts; ends = (stored_equations (qs ++ (q ∷ []))).ends; nodes = (stored_equations (qs ++ (q ∷ []))).nodes }) d.property d.size) count)

@@ -11,8 +11,8 @@ use Rattle.lists.specs.Lists.{Some}
 use Rattle.sets.specs.Sets.{◌∋◌, only, union, without, Lowest, lowest_of}
 use Rattle.sets.proofs.Laws.{bit_zero, union_assoc, union_nothing, bit-union, bit_or_zero, bit-only, only-bit, union_left, union_right, member_dec, subset_without, without_subset, without-left, without_out, without_in, without_lt, trailing_lowest, lowest_unique}
 use Rattle.logic.specs.Decks.{Equation, Deck, base}
-use Rattle.decks.specs.declared.Answer.{Answer}
-use Rattle.decks.specs.declared.Answer.TheVariants.{NoEquation}
+use Rattle.decks.specs.declared.Refusal.{Refusal}
+use Rattle.decks.specs.declared.Refusal.TheVariants.{NoEquation}
 use Rattle.decks.specs.Answers.{Outcome, Got, Refused}
 use Rattle.decks.specs.Readings.{left_set, complete}
 use Rattle.decks.proofs.Outcomes.{refused_got}
@@ -92,7 +92,7 @@ lacking_lowest d v w = (
 )
 
 -- 15 is given where a variable has no equation, and names the lowest such one.
-pub refused_lowest : (d : Deck) (a : Answer) → d.vars < 2 ^ base.variables → complete d ≡ Refused a → (v : ℕ) × (a ≡ NoEquation v) × LowestWithout d v
+pub refused_lowest : (d : Deck) (a : Refusal) → d.vars < 2 ^ base.variables → complete d ≡ Refused a → (v : ℕ) × (a ≡ NoEquation v) × LowestWithout d v
 refused_lowest d a h e =
     by_cases
     (ℕ_discrete (lacking d) 0)

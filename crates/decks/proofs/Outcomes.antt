@@ -6,30 +6,28 @@ use Prim.Native.Nat.{ℕ, suc, ◌+◌}
 use native.Mathlib.Omega.{arith}
 use borrow.Author.Tests.{not-false}
 use lib.ListN.{length, length-append}
-use Rattle.decks.specs.declared.Answer.{Answer}
-use Rattle.decks.specs.declared.Answer.TheVariants.{Fine}
+use Rattle.std.specs.Prelude.{Result, Err}
+use Rattle.decks.specs.declared.Refusal.{Refusal}
 use Rattle.decks.specs.Answers.{Outcome, Got, Refused, refuse, afterwards}
 use Rattle.decks.specs.Readings.{walk}
 
-pub refused_got : {A : Type 0} {P : Type 0} {x : A} {a : Answer} → Refused a ≡ Got x → P
+pub refused_got : {A : Type 0} {P : Type 0} {x : A} {a : Refusal} → Refused a ≡ Got x → P
 refused_got e = let z : ◌≡◌ {A = ℕ} 0 1 = cc in absurd (omega arith)
 
 pub got_eq : {A : Type 0} {x y : A} → Got x ≡ Got y → x ≡ y
 got_eq e = cc
 
--- The answer that an outcome comes to: `Fine` with a result.
-abbrev pub answer_of : {A : Type 0} → Outcome A → Answer
-answer_of (Got x) = Fine
-answer_of (Refused a) = a
+pub err_eq : {A E : Type 0} {x y : E} → ◌≡◌ {A = Result A E} (Err x) (Err y) → x ≡ y
+err_eq e = cc
 
 -- ---- one refusal of a list of them
 
 module _ {A : Type 0} where
-  pub refuse_got : (b : Bool) (a : Answer) (r : Outcome A) (x : A) → refuse b a r ≡ Got x → r ≡ Got x
+  pub refuse_got : (b : Bool) (a : Refusal) (r : Outcome A) (x : A) → refuse b a r ≡ Got x → r ≡ Got x
   refuse_got true a r x e = refused_got e
   refuse_got false a r x e = e
 
-  pub refuse_not : (b : Bool) (a : Answer) (r : Outcome A) (x : A) → refuse b a r ≡ Got x → b ≡ false
+  pub refuse_not : (b : Bool) (a : Refusal) (r : Outcome A) (x : A) → refuse b a r ≡ Got x → b ≡ false
   refuse_not true a r x e = refused_got e
   refuse_not false a r x e = refl
 
@@ -52,11 +50,11 @@ module _ {A : Type 0} where
   given_got P (Got x) f = f x refl
   given_got P (Refused a) f = tt
 
-  pub refuse_given : (P : A → Type 0) (t : Bool) (a : Answer) (r : Outcome A) → (t ≡ false → Given P r) → Given P (refuse t a r)
+  pub refuse_given : (P : A → Type 0) (t : Bool) (a : Refusal) (r : Outcome A) → (t ≡ false → Given P r) → Given P (refuse t a r)
   refuse_given P true a r f = tt
   refuse_given P false a r f = f refl
 
-  pub refuse_not_given : (P : A → Type 0) (t : Bool) (a : Answer) (r : Outcome A) → (t ≡ true → Given P r) → Given P (refuse (not t) a r)
+  pub refuse_not_given : (P : A → Type 0) (t : Bool) (a : Refusal) (r : Outcome A) → (t ≡ true → Given P r) → Given P (refuse (not t) a r)
   refuse_not_given P t a r f = refuse_given P (not t) a r (λ e. f (not-false t e))
 
   pub afterwards_given : {B : Type 0} (P : B → Type 0) (r : Outcome A) (f : A → Outcome B) → ((x : A) → r ≡ Got x → Given P (f x)) → Given P (afterwards r f)
@@ -70,7 +68,7 @@ module _ {A S : Type 0} (f : ℕ → A → S → Outcome S) where
   unfolding walk
   walk_got n x xs s t e = simp (e, walk)
 
-  pub walk_refused : (n : ℕ) (x : A) (xs : List A) (s : S) (a : Answer) → f n x s ≡ Refused a → walk f n (x ∷ xs) s ≡ Refused a
+  pub walk_refused : (n : ℕ) (x : A) (xs : List A) (s : S) (a : Refusal) → f n x s ≡ Refused a → walk f n (x ∷ xs) s ≡ Refused a
   unfolding walk
   walk_refused n x xs s a e = simp (e, walk)
 

@@ -1,5 +1,5 @@
 -- The arrays that hold a deck's equations: equation by equation, and with one equation more.
-use mathlib.Core.Path.{◌≡◌, refl, sym, ap, ◌∙◌, subst}
+use mathlib.Core.Path.{◌≡◌, refl, sym, ap, ◌∙◌}
 use mathlib.Core.Bool.{false}
 use mathlib.Core.List.{List, [], ◌∷◌, ◌++◌, append_assoc, append-nil}
 use Prim.Native.Nat.{ℕ, zero, suc, ◌+◌, ◌-◌, ◌<◌, ◌≤◌}
@@ -8,16 +8,13 @@ use native.Mathlib.Nat.{zero-add}
 use lib.ListN.{length, take, drop, get_or, set, replicate, length-append, get_or-map}
 use lib.Seq.{drop-cons}
 use Rattle.lists.specs.Lists.{Each, padded, splice}
-use Rattle.lists.proofs.Laws.{each_get_or, get_or-padded, padded_snoc, padded-append}
+use Rattle.lists.proofs.Laws.{each_get_or, take-padded, get_or-padded, padded_snoc, padded-append}
 use Rattle.logic.specs.Expressions.{Const, nodes, code}
 use Rattle.logic.specs.Decks.{Equation, Deck, base, total_nodes}
 use Rattle.logic.proofs.Codes.{length-code}
 use Rattle.decks.specs.declared.Deck.{Deck as Stored}
-use Rattle.decks.specs.declared.DeckRead.{DeckRead}
-use Rattle.decks.specs.declared.Answer.{Answer}
-use Rattle.decks.specs.Answers.{Outcome, Got, Refused}
 use Rattle.decks.specs.Stored.{lefts_of, ends_of, codes, stored}
-use Rattle.decks.specs.Lent.{HoldsEquations, deck_read, DeckCame}
+use Rattle.decks.specs.Lent.{HoldsEquations, Hold}
 
 -- What stands for an equation behind the last one.
 abbrev no_equation : Equation
@@ -149,39 +146,21 @@ equations_more qs q lefts ends nodes' n k h =
     from_zero : total_nodes qs + nodes q.right ≡ 0 + total_nodes qs + nodes q.right
     from_zero = omega arith
 
--- ---- a deck that was read
+-- What a deck that stands in memory holds.
+module _ (D : Deck) (s : Stored) (h : s ≡ stored D) where
+  pub stored_holds : Hold D.equations s.equations
+  stored_holds = record {
+    lefts_are = ap (λ (x : Stored). x.equations.lefts) h;
+    ends_are = ap (λ (x : Stored). x.equations.ends) h;
+    nodes_are = ap (λ (x : Stored). x.equations.nodes) h;
+    count_is = ap (λ (x : Stored). x.equations.count) h;
+  }
 
--- The deck in memory that a reading and its rows come to.
-abbrev pub stored_in : DeckRead → List ℕ → List ℕ → List ℕ → List ℕ → List ℕ → Stored
-stored_in r inits lefts ends nodes property =
-    record {
-      vars = r.vars;
-      inits = inits;
-      initials = r.initials;
-      lefts = lefts;
-      ends = ends;
-      equations = r.equations;
-      nodes = nodes;
-      property = property;
-      size = r.size;
-    }
+  pub stored_inits : take s.initials s.inits ≡ D.inits
+  stored_inits = ap (λ (x : Stored). take x.initials x.inits) h ∙ take-padded base.initials D.inits
 
-pub came-stored : (D : Deck) (r : DeckRead) (inits lefts ends nodes property : List ℕ) → DeckCame (Got D) r inits lefts ends nodes property → stored_in r inits lefts ends nodes property ≡ stored D
-came-stored D r inits lefts ends nodes property h =
-    let rows = h.rows_hold in
-    let held = rows.equations_are in
-    ap (λ (x : DeckRead). stored_in x inits lefts ends nodes property) h.read_is
-    ∙ ap (λ (l : List ℕ). stored_in (deck_read (Got D)) l lefts ends nodes property) rows.inits_are
-    ∙ ap (λ (l : List ℕ). stored_in (deck_read (Got D)) (stored D).inits l ends nodes property) held.lefts_are
-    ∙ ap (λ (l : List ℕ). stored_in (deck_read (Got D)) (stored D).inits (stored D).lefts l nodes property) held.ends_are
-    ∙ ap (λ (l : List ℕ). stored_in (deck_read (Got D)) (stored D).inits (stored D).lefts (stored D).ends l property) held.nodes_are
-    ∙ ap (λ (l : List ℕ). stored_in (deck_read (Got D)) (stored D).inits (stored D).lefts (stored D).ends (stored D).nodes l) rows.property_is
-
-pub came-equations : (D : Deck) (r : DeckRead) (inits lefts ends nodes property : List ℕ) → DeckCame (Got D) r inits lefts ends nodes property → HoldsEquations D.equations lefts ends nodes r.equations
-came-equations D r inits lefts ends nodes property h =
-    let held = h.rows_hold.equations_are in
-    record { lefts_are = held.lefts_are; ends_are = held.ends_are; nodes_are = held.nodes_are; count_is = ap (λ (x : DeckRead). x.equations) h.read_is }
-
--- A refusal, whatever the rows hold.
-pub refused_came : (o : Outcome Deck) (a : Answer) (r : DeckRead) (inits lefts ends nodes property : List ℕ) → r ≡ deck_read (Refused a) → o ≡ Refused a → DeckCame o r inits lefts ends nodes property
-refused_came o a r inits lefts ends nodes property q z = subst (λ (x : Outcome Deck). DeckCame x r inits lefts ends nodes property) (sym z) (record { read_is = q; rows_hold = tt })
+  pub stored_property : take s.size s.property ≡ code D.property
+  stored_property =
+      ap (λ (x : Stored). take x.size x.property) h
+      ∙ ap (λ (k : ℕ). take k (padded base.property_nodes (code D.property))) (sym (length-code D.property))
+      ∙ take-padded base.property_nodes (code D.property)

@@ -1,15 +1,13 @@
 -- Decks and claims in rows that the caller lends: what the readers promise to put there, and what those who work on the rows rest on.
 -- The replies of the public operations are said without it.
-use Rattle.std.specs.Prelude.{◌≡◌, List, ℕ, ◌≤◌, length, replicate}
+use Rattle.std.specs.Prelude.{◌≡◌, List, ℕ, length, Result}
 use Rattle.lists.specs.Lists.{padded}
-use Rattle.logic.specs.Expressions.{nodes, code}
 use Rattle.logic.specs.Decks.{Equation, Deck, base}
-use Rattle.logic.specs.Meaning.{Claim}
-use Rattle.decks.specs.declared.DeckRead.{DeckRead}
-use Rattle.decks.specs.declared.ClaimRead.{ClaimRead}
-use Rattle.decks.specs.declared.Answer.TheVariants.{Fine}
-use Rattle.decks.specs.Answers.{Outcome, Got, Refused}
-use Rattle.decks.specs.Stored.{lefts_of, ends_of, codes}
+use Rattle.decks.specs.declared.Refusal.{Refusal}
+use Rattle.decks.specs.declared.Equations.{Equations}
+use Rattle.decks.specs.declared.Deck.{Deck as Stored}
+use Rattle.decks.specs.Answers.{Outcome, Got, Refused, said}
+use Rattle.decks.specs.Stored.{lefts_of, ends_of, codes, stored}
 
 -- The rows and the count hold these equations: what is used of each stands from its first place on, zeros behind it.
 pub record HoldsEquations (qs : List Equation) (lefts ends nodes : List ℕ) (n : ℕ) : Type 0 where
@@ -18,46 +16,16 @@ pub record HoldsEquations (qs : List Equation) (lefts ends nodes : List ℕ) (n 
   pub nodes_are : nodes ≡ padded base.equation_nodes (codes qs)
   pub count_is : n ≡ length qs
 
--- The rows hold this deck: what is used of each stands from its first place on, zeros behind it.
-pub record HoldsDeck (d : Deck) (inits lefts ends nodes property : List ℕ) : Type 0 where
-  pub inits_are : inits ≡ padded base.initials d.inits
-  pub equations_are : HoldsEquations d.equations lefts ends nodes (length d.equations)
-  pub property_is : property ≡ padded base.property_nodes (code d.property)
+-- The equations lent hold these.
+abbrev pub Hold : List Equation → Equations → Type 0
+Hold qs e = HoldsEquations qs e.lefts e.ends e.nodes e.count
 
--- The rows before a deck is read: zeros.
-pub record Blank (inits lefts ends nodes property : List ℕ) : Type 0 where
-  pub inits_zero : inits ≡ replicate base.initials 0
-  pub lefts_zero : lefts ≡ replicate base.equations 0
-  pub ends_zero : ends ≡ replicate base.equations 0
-  pub nodes_zero : nodes ≡ replicate base.equation_nodes 0
-  pub property_zero : property ≡ replicate base.property_nodes 0
+-- The deck that was read stands in the one that was lent, byte for byte.
+abbrev pub StandsIn : Outcome Deck → Stored → Type 0
+StandsIn (Got d) s = s ≡ stored d
+StandsIn (Refused a) s = Unit
 
--- What a reader of decks returns.
-abbrev pub deck_read : Outcome Deck → DeckRead
-deck_read (Got d) = record { answer = Fine; vars = d.vars; initials = length d.inits; equations = length d.equations; size = nodes d.property }
-deck_read (Refused a) = record { answer = a; vars = 0; initials = 0; equations = 0; size = 0 }
-
--- The rows behind a reading that was not refused.
-abbrev pub DeckHeld : Outcome Deck → List ℕ → List ℕ → List ℕ → List ℕ → List ℕ → Type 0
-DeckHeld (Got d) inits lefts ends nodes property = HoldsDeck d inits lefts ends nodes property
-DeckHeld (Refused a) inits lefts ends nodes property = Unit
-
--- What a reading came to, with the rows behind it.
-pub record DeckCame (o : Outcome Deck) (r : DeckRead) (inits lefts ends nodes property : List ℕ) : Type 0 where
-  pub read_is : r ≡ deck_read o
-  pub rows_hold : DeckHeld o inits lefts ends nodes property
-
--- What a reader of claims returns.
-abbrev pub claim_read : Outcome Claim → ClaimRead
-claim_read (Got m) = record { answer = Fine; p = m.p; c = m.c }
-claim_read (Refused a) = record { answer = a; p = 0; c = 0 }
-
--- The row behind a reading that was not refused: the states of the claim, zeros behind them.
-abbrev pub StatesHeld : Outcome Claim → List ℕ → Type 0
-StatesHeld (Got m) states = (states ≡ padded (length states) m.states) × (length m.states ≤ length states)
-StatesHeld (Refused a) states = Unit
-
--- What a reading of a claim came to, with the row behind it.
-pub record ClaimCame (o : Outcome Claim) (r : ClaimRead) (states : List ℕ) : Type 0 where
-  pub read_is : r ≡ claim_read o
-  pub row_holds : StatesHeld o states
+-- What a reader of decks promises: what it says, and the deck lent to it behind that.
+pub record ReadInto (o : Outcome Deck) (r : Result (Unit {0}) Refusal) (s : Stored) : Type 0 where
+  pub said_is : r ≡ said o
+  pub stands_in : StandsIn o s

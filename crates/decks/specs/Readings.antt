@@ -3,7 +3,7 @@ use Rattle.std.specs.Prelude.{not, List, [], ◌∷◌, ℕ, suc, eqb}
 use Rattle.sets.specs.Sets.{union, only, without, lowest_of}
 use Rattle.logic.specs.Expressions.{Expr}
 use Rattle.logic.specs.Decks.{Equation, Deck}
-use Rattle.decks.specs.declared.Answer.TheVariants.{NoEquation}
+use Rattle.decks.specs.declared.Refusal.TheVariants.{NoEquation}
 use Rattle.decks.specs.Answers.{Outcome, Got, Refused, refuse}
 
 -- An expression and what stands behind it; or what stands from the first fault on: what no expression can go on with, or the begin of one at level 33.

@@ -3,6 +3,7 @@ use Rattle.std.specs.Prelude.{List, [], ◌∷◌, ◌++◌, map, ℕ, ◌+◌, 
 use Rattle.lists.specs.Lists.{padded}
 use Rattle.logic.specs.Expressions.{nodes, code}
 use Rattle.logic.specs.Decks.{Equation, Deck, Limits, base}
+use Rattle.decks.specs.declared.Equations.{Equations}
 use Rattle.decks.specs.declared.Deck.{Deck as Stored}
 use Rattle.decks.specs.declared.Sizes.{Sizes}
 
@@ -21,31 +22,43 @@ codes [] = []
 codes (q ∷ qs) = code q.right ++ codes qs
 
 -- What is used of each array stands from its first place on, zeros behind it.
+abbrev pub stored_equations : List Equation → Equations
+stored_equations qs =
+    record {
+      count = length qs;
+      lefts = padded base.equations (lefts_of qs);
+      ends = padded base.equations (ends_of 0 qs);
+      nodes = padded base.equation_nodes (codes qs);
+    }
+
 abbrev pub stored : Deck → Stored
 stored d =
     record {
       vars = d.vars;
       inits = padded base.initials d.inits;
       initials = length d.inits;
-      lefts = padded base.equations (lefts_of d.equations);
-      ends = padded base.equations (ends_of 0 d.equations);
-      equations = length d.equations;
-      nodes = padded base.equation_nodes (codes d.equations);
+      equations = stored_equations d.equations;
       property = padded base.property_nodes (code d.property);
       size = nodes d.property;
     }
 
 -- The deck of zeros: what is returned with a refusal.
+abbrev pub no_equations : Equations
+no_equations =
+    record {
+      count = 0;
+      lefts = replicate base.equations 0;
+      ends = replicate base.equations 0;
+      nodes = replicate base.equation_nodes 0;
+    }
+
 abbrev pub blank : Stored
 blank =
     record {
       vars = 0;
       inits = replicate base.initials 0;
       initials = 0;
-      lefts = replicate base.equations 0;
-      ends = replicate base.equations 0;
-      equations = 0;
-      nodes = replicate base.equation_nodes 0;
+      equations = no_equations;
       property = replicate base.property_nodes 0;
       size = 0;
     }

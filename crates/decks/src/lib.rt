@@ -1,12 +1,11 @@
 // The deck in memory, the limits, and the answers with their numbers.
 #![tactic(auto)]
 
-ghost use Rattle.std.specs.Prelude.{◌≡◌, ◌<◌, ◌≤◌, length, take, get_or, set};
+ghost use Rattle.std.specs.Prelude.{◌≡◌, ◌≤◌, take};
 ghost use Rattle.lists.specs.Lists.{stands};
 ghost use Rattle.logic.specs.Decks.{base};
-ghost use Rattle.decks.specs.Answers.{Refused, reply_of};
-ghost use Rattle.decks.specs.Stored.{blank, sizes_of};
-ghost use Rattle.decks.specs.Lent.{deck_read};
+ghost use Rattle.decks.specs.Answers.{fine, reply_of, reply_to};
+ghost use Rattle.decks.specs.Stored.{blank, no_equations, sizes_of};
 
 // The sizes of RULES 3.
 pub const TEXT: usize = 64800;
@@ -28,25 +27,30 @@ pub const STATES: usize = 1024;
 // The words of a state or set.
 pub const WORDS: usize = 1;
 
+// The equations of a deck: a place for each in lefts and ends, its variable and where its nodes end in nodes.
+// What is used of each array stands from its first place on, zeros behind it: no heap, so each has room for the most that a deck may have.
+#[derive(Drop)]
+pub struct Equations {
+    pub count: usize,
+    pub lefts: [u16; EQUATIONS],
+    pub ends: [u16; EQUATIONS],
+    pub nodes: [u16; EQUATION_NODES],
+}
+
 // A deck: what is used of each array stands from its first place on, zeros behind it.
-// lefts and ends have a place for each equation: its variable, and where its nodes end in nodes.
 #[derive(Drop)]
 pub struct Deck {
     pub vars: u64,
     pub inits: [u64; INITIALS * WORDS],
     pub initials: usize,
-    pub lefts: [u16; EQUATIONS],
-    pub ends: [u16; EQUATIONS],
-    pub equations: usize,
-    pub nodes: [u16; EQUATION_NODES],
+    pub equations: Equations,
     pub property: [u16; PROPERTY_NODES],
     pub size: usize,
 }
 
-// The answers of the table of RULES 7.2, each with what its reply needs beside the number.
-#[derive(Clone, Copy)]
-pub enum Answer {
-    Fine,
+// The refusals of the table of RULES 7.2, each with what its reply needs beside the number.
+#[derive(Clone, Copy, Debug, PartialEq, Eq)]
+pub enum Refusal {
     TooLong(u64),
     BadByte(u64),
     TooWide(u64),
@@ -69,30 +73,12 @@ pub enum Answer {
     Holding,
 }
 
-// Number, text at fault and place.
-#[derive(Clone, Copy)]
+// Number, text at fault and place, all zero where nothing is refused. They are numbers since C has them in one word.
+#[derive(Clone, Copy, Debug, PartialEq, Eq)]
 pub struct Reply {
     pub number: u64,
     pub text: u64,
     pub place: u64,
-}
-
-// What a reader of decks comes to, beside the rows lent to it: the variables and how much of the rows is used, or a refusal and zeros.
-#[derive(Clone, Copy)]
-pub struct DeckRead {
-    pub answer: Answer,
-    pub vars: u64,
-    pub initials: usize,
-    pub equations: usize,
-    pub size: usize,
-}
-
-// What a reader of claims comes to, beside the row of states lent to it: p and c, or a refusal and zeros.
-#[derive(Clone, Copy)]
-pub struct ClaimRead {
-    pub answer: Answer,
-    pub p: usize,
-    pub c: usize,
 }
 
 // The limits, as the logic has them.
@@ -124,170 +110,99 @@ pub fn limits() -> Sizes
     }
 }
 
-// A number of a row as a place or a count.
-pub fn wide(n: u16) -> usize
-    ensures { (result ≡ n) × (result < 65536) }
+// Whether a state is among these.
+pub fn stands_in(states: &[u64], s: u64) -> bool
+    ensures { result ≡ stands s states.now }
 {
-    n as usize
+    states.contains(&s)
 }
 
-// Number i of a row.
-pub fn number_at(row: &[u16], i: usize) -> u16
-    requires { i < length row.now }
-    ensures { result ≡ get_or row.now i 0 }
-{
-    row[i]
-}
-
-// Number i of a row as a place or a count.
-pub fn place_at(row: &[u16], i: usize) -> usize
-    requires { i < length row.now }
-    ensures { (result ≡ get_or row.now i 0) × (result < 65536) }
-{
-    wide(row[i])
-}
-
-// State i of a row of states.
-pub fn state_at(states: &[u64], i: usize) -> u64
-    requires { i < length states.now }
-    ensures { result ≡ get_or states.now i 0 }
-{
-    states[i]
-}
-
-// A state stored at place i of a row of states.
-pub fn put_state(states: &mut [u64], i: usize, s: u64)
-    requires { i < length states.old }
-    ensures { states.new ≡ set states.old i s }
-{
-    states[i] = s;
-}
-
-// Whether a state is among the first of a row of states.
-pub fn stands_in(states: &[u64], count: usize, s: u64) -> bool
-    requires { count ≤ length states.now }
-    ensures { result ≡ stands s (take count states.now) }
-{
-    let mut i = 0;
-    while i < count {
-        if s == state_at(states, i) {
-            return true;
-        }
-        i += 1;
+impl Deck {
+    // The initial states of a deck.
+    pub fn initial_states(&self) -> &[u64]
+        requires { self.now.initials ≤ base.initials }
+        ensures { result.now ≡ take self.now.initials self.now.inits }
+    {
+        &self.inits[..self.initials]
     }
-    false
+
+    // The nodes of its property.
+    pub fn property_nodes(&self) -> &[u16]
+        requires { self.now.size ≤ base.property_nodes }
+        ensures { result.now ≡ take self.now.size self.now.property }
+    {
+        &self.property[..self.size]
+    }
 }
 
-// Number, text and place of an answer.
-pub fn reply_of(a: Answer) -> Reply
-    ensures { result ≡ reply_of a }
+impl Reply {
+    // The reply where nothing is refused.
+    pub fn fine() -> Reply
+        ensures { result ≡ fine }
+    {
+        Reply::of(0, 0, 0)
+    }
+
+    fn of(number: u64, text: u64, place: u64) -> Reply
+        ensures { result ≡ record { number = number; text = text; place = place } }
+    {
+        Reply {
+            number,
+            text,
+            place,
+        }
+    }
+}
+
+// Number, text and place of a refusal.
+impl From<Refusal> for Reply {
+    ghost from_gives = { λ a r. r ≡ reply_of a };
+
+    fn from(a: Refusal) -> Reply {
+        match a {
+            Refusal::TooLong(t) => Reply::of(1, t, 0),
+            Refusal::BadByte(p) => Reply::of(2, 1, p),
+            Refusal::TooWide(p) => Reply::of(3, 1, p),
+            Refusal::BadStart(p) => Reply::of(4, 1, p),
+            Refusal::BadNumber(p) => Reply::of(5, 1, p),
+            Refusal::NoneOpen(p) => Reply::of(6, 1, p),
+            Refusal::TooManyCards(p) => Reply::of(7, 1, p),
+            Refusal::NotDue(p) => Reply::of(8, 1, p),
+            Refusal::Outside(t, p) => Reply::of(9, t, p),
+            Refusal::Temporal(p) => Reply::of(10, 1, p),
+            Refusal::TooDeep(p) => Reply::of(11, 1, p),
+            Refusal::ManyInitials(p) => Reply::of(12, 1, p),
+            Refusal::ManyEquations(p) => Reply::of(13, 1, p),
+            Refusal::ManyNodes(p) => Reply::of(14, 1, p),
+            Refusal::NoEquation(p) => Reply::of(15, 1, p),
+            Refusal::BadFrame(t, p) => Reply::of(16, t, p),
+            Refusal::NoRoom(p) => Reply::of(17, 0, p),
+            Refusal::NotInitial => Reply::of(20, 2, 0),
+            Refusal::NoStep(p) => Reply::of(21, 2, p),
+            Refusal::Holding => Reply::of(22, 2, 0),
+        }
+    }
+}
+
+// The reply to what was done.
+pub fn reply_to(done: Result<(), Refusal>) -> Reply
+    ensures { result ≡ reply_to done }
 {
-    match a {
-        Answer::Fine => Reply {
-            number: 0,
-            text: 0,
-            place: 0,
-        },
-        Answer::TooLong(t) => Reply {
-            number: 1,
-            text: t,
-            place: 0,
-        },
-        Answer::BadByte(p) => Reply {
-            number: 2,
-            text: 1,
-            place: p,
-        },
-        Answer::TooWide(p) => Reply {
-            number: 3,
-            text: 1,
-            place: p,
-        },
-        Answer::BadStart(p) => Reply {
-            number: 4,
-            text: 1,
-            place: p,
-        },
-        Answer::BadNumber(p) => Reply {
-            number: 5,
-            text: 1,
-            place: p,
-        },
-        Answer::NoneOpen(p) => Reply {
-            number: 6,
-            text: 1,
-            place: p,
-        },
-        Answer::TooManyCards(p) => Reply {
-            number: 7,
-            text: 1,
-            place: p,
-        },
-        Answer::NotDue(p) => Reply {
-            number: 8,
-            text: 1,
-            place: p,
-        },
-        Answer::Outside(t, p) => Reply {
-            number: 9,
-            text: t,
-            place: p,
-        },
-        Answer::Temporal(p) => Reply {
-            number: 10,
-            text: 1,
-            place: p,
-        },
-        Answer::TooDeep(p) => Reply {
-            number: 11,
-            text: 1,
-            place: p,
-        },
-        Answer::ManyInitials(p) => Reply {
-            number: 12,
-            text: 1,
-            place: p,
-        },
-        Answer::ManyEquations(p) => Reply {
-            number: 13,
-            text: 1,
-            place: p,
-        },
-        Answer::ManyNodes(p) => Reply {
-            number: 14,
-            text: 1,
-            place: p,
-        },
-        Answer::NoEquation(p) => Reply {
-            number: 15,
-            text: 1,
-            place: p,
-        },
-        Answer::BadFrame(t, p) => Reply {
-            number: 16,
-            text: t,
-            place: p,
-        },
-        Answer::NoRoom(p) => Reply {
-            number: 17,
-            text: 0,
-            place: p,
-        },
-        Answer::NotInitial => Reply {
-            number: 20,
-            text: 2,
-            place: 0,
-        },
-        Answer::NoStep(p) => Reply {
-            number: 21,
-            text: 2,
-            place: p,
-        },
-        Answer::Holding => Reply {
-            number: 22,
-            text: 2,
-            place: 0,
-        },
+    match done {
+        Ok(()) => Reply::fine(),
+        Err(a) => Reply::from(a),
+    }
+}
+
+// No equations: zeros.
+pub fn no_equations() -> Equations
+    ensures { result ≡ no_equations }
+{
+    Equations {
+        count: 0,
+        lefts: [0; EQUATIONS],
+        ends: [0; EQUATIONS],
+        nodes: [0; EQUATION_NODES],
     }
 }
 
@@ -299,24 +214,8 @@ pub fn no_deck() -> Deck
         vars: 0,
         inits: [0; INITIALS * WORDS],
         initials: 0,
-        lefts: [0; EQUATIONS],
-        ends: [0; EQUATIONS],
-        equations: 0,
-        nodes: [0; EQUATION_NODES],
+        equations: no_equations(),
         property: [0; PROPERTY_NODES],
-        size: 0,
-    }
-}
-
-// A refusal, and zeros beside it.
-pub fn refused(a: Answer) -> DeckRead
-    ensures { result ≡ deck_read (Refused a) }
-{
-    DeckRead {
-        answer: a,
-        vars: 0,
-        initials: 0,
-        equations: 0,
         size: 0,
     }
 }

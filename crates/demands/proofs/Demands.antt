@@ -16,9 +16,8 @@ use Rattle.logic.specs.Verdicts.{Verdict, Breaking, NotInitial as NotInitialStat
 use Rattle.logic.proofs.Cone.{cone_is}
 use Rattle.logic.proofs.Verdict.{accepted_exactly_when, refused_20_exactly_when, refused_21_exactly_when, refused_22_exactly_when}
 use Rattle.decks.specs.declared.Reply.{Reply}
-use Rattle.decks.specs.Answers.{Outcome, Got, Refused, reply_of}
+use Rattle.decks.specs.Answers.{Outcome, Got, Refused, reply_to, said}
 use Rattle.decks.specs.Stored.{stored, blank}
-use Rattle.decks.proofs.Outcomes.{answer_of}
 use Rattle.frames.specs.Written.{deck_frames}
 use Rattle.frames.specs.Read.{read_deck}
 use Rattle.frames.proofs.DeckTheorems.{deck-written_read, deck_read_written, deck_read_accepted}
@@ -70,7 +69,7 @@ pub replies_finds_cone : (text : List ℕ) (s : ℕ) → (r : CountReply) × Fin
 replies_finds_cone text s = (cone_reply (read_deck text) s, refl)
 
 pub replies_checks_claim : (deck claim : List ℕ) → (r : Reply) × ChecksClaim deck claim r
-replies_checks_claim deck claim = (reply_of (checked deck claim), refl)
+replies_checks_claim deck claim = (reply_to (checked deck claim), refl)
 
 -- ---- a refusal returns nothing else and changes no lent memory
 
@@ -204,7 +203,7 @@ told r = record { number = r.number; text = r.text; place = r.place }
 abbrev counted : CountReply → Reply
 counted r = record { number = r.number; text = r.text; place = r.place }
 
-read_told : (o : Outcome Deck) → told (read_reply o) ≡ reply_of (answer_of o)
+read_told : (o : Outcome Deck) → told (read_reply o) ≡ reply_to (said o)
 read_told (Got d) = refl
 read_told (Refused a) = refl
 
@@ -221,7 +220,7 @@ module _ (one other : List ℕ) (same : SameButComments one other) where
   alike : (x y : Reply) → x ≡ told (read_reply (read_cards one)) → y ≡ told (read_reply (read_cards other)) → SameReply one other x y
   alike x y p q =
       subst (λ (z : Reply). SameReply one other z y) (sym (p ∙ read_told (read_cards one)))
-      (subst (SameReply one other (reply_of (answer_of (read_cards one)))) (sym (q ∙ read_told (read_cards other))) (comment_same_reply one other same))
+      (subst (SameReply one other (reply_to (said (read_cards one)))) (sym (q ∙ read_told (read_cards other))) (comment_same_reply one other same))
 
   pub comment_same_refusal_reads_cards : (r s : DeckReply) → ReadsCards one r → ReadsCards other s
       → (r.number ≡ s.number) × (r.text ≡ s.text) × SamePlace one other r.number r.place s.place
@@ -365,14 +364,14 @@ Read deck claim P = (d : Deck) × (m : Claim) × BothRead deck claim d m × P d 
 
 module _ (deck claim : List ℕ) (r : Reply) (says : ChecksClaim deck claim r) where
   -- A number that is no text's fault is a verdict's.
-  read_verdict : (n : ℕ) → r.number ≡ n → (OfText n → ⊥) → Read deck claim (λ d m. r ≡ reply_of (verdict_answer (verdict d m)))
+  read_verdict : (n : ℕ) → r.number ≡ n → (OfText n → ⊥) → Read deck claim (λ d m. r ≡ reply_to (verdict_answer (verdict d m)))
   read_verdict n e other =
-      let same : (reply_of (checked deck claim)).number ≡ n = sym (ap (λ (x : Reply). x.number) says) ∙ e in
+      let same : (reply_to (checked deck claim)).number ≡ n = sym (ap (λ (x : Reply). x.number) says) ∙ e in
       let (d, m, both, is) = checked_both deck claim (λ h. other (subst OfText same h)) in
-      (d, m, both, says ∙ ap reply_of is)
+      (d, m, both, says ∙ ap reply_to is)
 
-  verdict_read : (d : Deck) (m : Claim) (v : Verdict) → BothRead deck claim d m → verdict d m ≡ v → r ≡ reply_of (verdict_answer v)
-  verdict_read d m v both e = says ∙ ap reply_of (both_checked deck claim d m both) ∙ ap (λ (x : Verdict). reply_of (verdict_answer x)) e
+  verdict_read : (d : Deck) (m : Claim) (v : Verdict) → BothRead deck claim d m → verdict d m ≡ v → r ≡ reply_to (verdict_answer v)
+  verdict_read d m v both e = says ∙ ap reply_to (both_checked deck claim d m both) ∙ ap (λ (x : Verdict). reply_to (verdict_answer x)) e
 
   -- Accepted exactly when both texts are read, and the claim's run is a run of the deck and breaks its property.
   pub claim_accepted_exactly_when : (r.number ≡ 0) ↔ Read deck claim (λ d m. RunOf d (claim_run m) × Breaks (claim_run m) d.property)

@@ -14,7 +14,7 @@ use Rattle.logic.specs.Cones.{grown, passes, cone}
 use Rattle.logic.specs.Pieces.{split, piece, pieces}
 use Rattle.logic.specs.Verdicts.{unrolled, truth, taken, allowed, steps_from, verdict}
 use Rattle.decks.specs.declared.Reply.{Reply}
-use Rattle.decks.specs.declared.Answer.TheVariants.{Fine}
+use Rattle.decks.specs.Answers.{fine}
 use Rattle.decks.specs.Readings.{walk, left_set, complete}
 use Rattle.frames.specs.Hex.{hex_digit, pairs, digit_of, byte_of, number_from}
 use Rattle.frames.specs.Written.{code_byte, node_pairs, state_frames, equation_frames, deck_frames}
@@ -61,9 +61,9 @@ pub data Line : Type 0 where
 
 -- The operation's promise is met by the answer.
 abbrev pub Answered : Line → Type 0
-Answered (Written cards frames) = WritesCards cards lent (count_reply Fine (length frames) 0) (over frames)
-Answered (Reduced cards n frames) = ReducesCards cards lent (count_reply Fine n (length frames)) (over frames)
-Answered (Cone deck s c n) = FindsCone deck s (count_reply Fine c n)
+Answered (Written cards frames) = WritesCards cards lent (count_reply fine (length frames) 0) (over frames)
+Answered (Reduced cards n frames) = ReducesCards cards lent (count_reply fine n (length frames)) (over frames)
+Answered (Cone deck s c n) = FindsCone deck s (count_reply fine c n)
 Answered (Checked deck claim r) = ChecksClaim deck claim r
 
 -- ---- texts

@@ -1,6 +1,6 @@
 -- Laws of line ends.
 use mathlib.Core.Path.{◌≡◌, sym, ap, ◌∙◌, subst}
-use mathlib.Core.Bool.{Bool, true, false, ◌||◌}
+use mathlib.Core.Bool.{Bool, false, ◌||◌}
 use mathlib.Core.Logic.{⊎_elim}
 use mathlib.Core.List.{List, [], ◌∷◌, ◌++◌}
 use Prim.Native.Nat.{ℕ, zero, suc, ◌+◌, ◌-◌, ◌<◌, ◌≤◌}
@@ -8,8 +8,8 @@ use native.Mathlib.Omega.{arith}
 use native.Mathlib.Numerals.{add-one}
 use native.Mathlib.Decide.{ℕ_discrete, dec_lt}
 use lib.Dec.{ltb, eqb}
-use lib.ListN.{length, take, drop, get_or, length-drop, drop_of_length-le}
-use lib.Seq.{drop-cons, drop-drop, get_or-drop}
+use lib.ListN.{length, take, drop, get_or, length-append, length-drop, drop_of_length-le}
+use lib.Seq.{drop_at, drop-cons, drop-drop}
 use borrow.Author.Tests.{eq-eqb, ne_eqb, lt-ltb, le-ltb, ltb-false}
 use Rattle.lists.specs.Lists.{◌among◌, ended, unended}
 use Rattle.lists.proofs.Laws.{ended_none, ended_next, unended-whole, unended_next}
@@ -37,9 +37,9 @@ module _ (text : List ℕ) (at i : ℕ) where
         ap line_length (drop-cons text i 0 h) ∙ length_on (get_or text i 0) (drop (suc i) text) n ∙ ap (λ (k : ℕ). suc (line_length (drop k text))) (sym (add-one i)),
       )
 
-  pub line_last : length text ≤ i → at + line_length (drop at text) ≡ i + line_length (drop i text) → i ≡ at + line_length (drop at text)
+  pub line_last : length text ≤ i → i ≤ length text → at + line_length (drop at text) ≡ i + line_length (drop i text) → length text ≡ at + line_length (drop at text)
   unfolding line_length
-  line_last h e = omega (arith, e, ap line_length (drop_of_length-le text {i = i} h))
+  line_last h l e = omega (arith, e, ap line_length (drop_of_length-le text {i = i} h))
 
 -- ---- blocks
 
@@ -62,55 +62,36 @@ not_there (b ∷ bs) (suc i) h n e = go (ℕ_discrete b 10) (not_there bs i)
     go (yes q) f = absurd (omega (arith, e, length_at_end b bs q))
     go (no m) f = f (omega (arith, h)) n (omega (arith, e, length_on b bs m))
 
--- A line that does not end within the first k bytes goes on behind them.
-goes_on : (k : ℕ) (t : List ℕ) → k ≤ length t → k ≤ line_length t → line_length t ≡ k + line_length (drop k t)
-goes_on zero t h l = omega arith
-goes_on (suc k) [] h l = absurd (omega (arith, h))
-goes_on (suc k) (b ∷ bs) h l = go (ℕ_discrete b 10) (goes_on k bs)
+-- One byte more of a block.
+pub within_next : (t : List ℕ) (i : ℕ) (found : Bool) → i < length t → found ≡ ltb (line_length t) i → (found || eqb (get_or t i 0) 10) ≡ ltb (line_length t) (i + 1)
+within_next t i found h e = go (ℕ_discrete (get_or t i 0) 10) (dec_lt (line_length t) i)
   where
-    go : Dec (b ≡ 10) → (k ≤ length bs → k ≤ line_length bs → line_length bs ≡ k + line_length (drop k bs)) → line_length (b ∷ bs) ≡ suc k + line_length (drop k bs)
+    go : Dec (get_or t i 0 ≡ 10) → Dec (line_length t < i) → (found || eqb (get_or t i 0) 10) ≡ ltb (line_length t) (i + 1)
+    go d (yes l) = rw (e ∙ lt-ltb _ _ l) (sym (lt-ltb (line_length t) (i + 1) (omega arith)))
+    go (yes z) (no m) = rw (e ∙ le-ltb (line_length t) i (omega arith)) (eq-eqb (get_or t i 0) 10 z ∙ sym (lt-ltb (line_length t) (i + 1) (omega (arith, ends_by t i h z))))
+    go (no n) (no m) = rw (e ∙ le-ltb (line_length t) i (omega arith)) (ne_eqb (get_or t i 0) 10 n ∙ sym (le-ltb (line_length t) (i + 1) (past (not_there t i h n))))
+      where
+        past : (line_length t ≡ i → ⊥) → i + 1 ≤ line_length t
+        past f = omega (arith, f)
+
+-- A line that does not end within a block goes on behind it.
+goes_on : (block rest : List ℕ) → length block ≤ line_length block → line_length (block ++ rest) ≡ length block + line_length rest
+goes_on [] rest l = omega arith
+goes_on (b ∷ bs) rest l = go (ℕ_discrete b 10) (goes_on bs rest)
+  where
+    go : Dec (b ≡ 10) → (length bs ≤ line_length bs → line_length (bs ++ rest) ≡ length bs + line_length rest) → line_length (b ∷ (bs ++ rest)) ≡ suc (length bs) + line_length rest
     go (yes e) f = absurd (omega (arith, l, length_at_end b bs e))
-    go (no n) f = omega (arith, length_on b bs n, f (omega (arith, h)) (omega (arith, l, length_on b bs n)))
+    go (no n) f = omega (arith, length_on b (bs ++ rest) n, f (omega (arith, l, length_on b bs n)))
 
-pub or_met : (b : ℕ) (found : Bool) → b ≡ 10 → true ≡ (eqb b 10 || found)
-or_met b found e = ap (λ (t : Bool). t || found) (sym (eq-eqb b 10 e))
+module _ (text block rest : List ℕ) (i : ℕ) (e : drop i text ≡ block ++ rest) (n : length block ≡ 8) where
+  pub block_within : i + 8 ≤ length text
+  block_within = omega (arith, ap length e, length-append block rest, length-drop i text)
 
-pub or_not : (b : ℕ) (found : Bool) → (b ≡ 10 → ⊥) → found ≡ (eqb b 10 || found)
-or_not b found n = ap (λ (t : Bool). t || found) (sym (ne_eqb b 10 n))
+  pub block_behind : rest ≡ drop (i + 8) text
+  block_behind = sym (drop_at block rest 8 n) ∙ ap (drop 8) (sym e) ∙ drop-drop 8 i text
 
-module _ (text : List ℕ) (at : ℕ) where
-  pub within_none : false ≡ ltb (line_length (drop at text)) 0
-  within_none = sym (le-ltb (line_length (drop at text)) 0 (omega arith))
-
-  -- One byte more.
-  pub within_next : (i : ℕ) (found r : Bool) → i < 8 → at + 8 ≤ length text → found ≡ ltb (line_length (drop at text)) i → r ≡ (eqb (get_or text (at + i) 0) 10 || found) → r ≡ ltb (line_length (drop at text)) (i + 1)
-  within_next i found r h l e q = q ∙ go (ℕ_discrete (get_or text (at + i) 0) 10) (dec_lt (line_length (drop at text)) i)
-    where
-      long : i < length (drop at text)
-      long = omega (arith, length-drop at text)
-
-      here : get_or (drop at text) i 0 ≡ get_or text (at + i) 0
-      here = get_or-drop at text i 0
-
-      go : Dec (get_or text (at + i) 0 ≡ 10) → Dec (line_length (drop at text) < i) → (eqb (get_or text (at + i) 0) 10 || found) ≡ ltb (line_length (drop at text)) (i + 1)
-      go (yes z) d = ap (λ (t : Bool). t || found) (eq-eqb (get_or text (at + i) 0) 10 z) ∙ sym (lt-ltb (line_length (drop at text)) (i + 1) (omega (arith, ends_by (drop at text) i long (here ∙ z))))
-      go (no n) (yes d) = ap (λ (t : Bool). t || found) (ne_eqb (get_or text (at + i) 0) 10 n) ∙ e ∙ lt-ltb _ _ d ∙ sym (lt-ltb (line_length (drop at text)) (i + 1) (omega arith))
-      go (no n) (no d) = ap (λ (t : Bool). t || found) (ne_eqb (get_or text (at + i) 0) 10 n) ∙ e ∙ le-ltb (line_length (drop at text)) i (omega arith) ∙ sym (le-ltb (line_length (drop at text)) (i + 1) (ne_lt (not_there (drop at text) i long (λ y. n (sym here ∙ y)))))
-        where
-          ne_lt : (line_length (drop at text) ≡ i → ⊥) → i + 1 ≤ line_length (drop at text)
-          ne_lt f = omega (arith, f)
-
-  pub within_all_lem : (i : ℕ) (found : Bool) → 8 ≤ i → i ≤ 8 → found ≡ ltb (line_length (drop at text)) i → found ≡ ltb (line_length (drop at text)) 8
-  within_all_lem i found l h e = let z : i ≡ 8 = omega arith in e ∙ ap (ltb (line_length (drop at text))) z
-
-  -- A block behind which the line goes on.
-  pub blocks_on : (i : ℕ) (b : Bool) → at + line_length (drop at text) ≡ i + line_length (drop i text) → i ≤ length text → 8 ≤ length text - i → b ≡ ltb (line_length (drop i text)) 8 → b ≡ false → at + line_length (drop at text) ≡ i + 8 + line_length (drop (i + 8) text)
-  blocks_on i b e k l q z =
-      omega (
-        arith,
-        e,
-        goes_on 8 (drop i text) (omega (arith, length-drop i text)) (ltb-false _ _ (sym q ∙ z)) ∙ ap (λ (u : List ℕ). 8 + line_length u) (drop-drop 8 i text),
-      )
+  pub block_passed : (at : ℕ) (b : Bool) → b ≡ ltb (line_length block) (length block) → b ≡ false → at + line_length (drop at text) ≡ i + line_length (drop i text) → at + line_length (drop at text) ≡ i + 8 + line_length (drop (i + 8) text)
+  block_passed at b q z h = omega (arith, h, ap line_length e ∙ goes_on block rest (ltb-false _ _ (sym q ∙ z)), ap line_length block_behind)
 
 -- ---- what stands in a text from a place on
 

@@ -1,57 +1,44 @@
 -- Laws of the equations of a set, written and counted.
 use mathlib.Core.Path.{◌≡◌, refl, sym, ap, ◌∙◌}
-use mathlib.Core.Bool.{Bool, true, false}
+use mathlib.Core.Bool.{Bool, true, false, cond}
 use mathlib.Core.List.{List, [], ◌∷◌, ◌++◌, append_assoc}
-use Prim.Native.Nat.{ℕ, suc, ◌+◌, ◌-◌, ◌*◌, ◌%◌, ◌^◌, ◌<◌, ◌≤◌}
+use Prim.Native.Nat.{ℕ, zero, suc, ◌+◌, ◌-◌, ◌*◌, ◌^◌, ◌<◌, ◌≤◌}
 use native.Mathlib.Omega.{arith}
 use native.Mathlib.Decide.{dec_lt}
-use native.Mathlib.Nat.{add-zero}
 use lib.Pow.{pow_mono}
-use lib.ListN.{length, take, drop, get_or, replicate, length-append, length-drop}
-use lib.Seq.{get_or-drop, drop-drop, drop_at, take_at}
+use lib.ListN.{length, take, drop, get_or, replicate, length-append, length-drop, drop_of_length-le}
+use lib.Seq.{drop_at, take_at}
 use borrow.Rule.Slice.PartMut.{mid_of, put_mid}
-use Rattle.lists.specs.Lists.{keep, padded, splice, part}
-use Rattle.lists.proofs.Laws.{each_take, each_drop, keep_pass, keep_fail, take-padded, part-rest, part_next, part-done, length_part}
+use Rattle.std.specs.List.{count_by}
+use Rattle.std.proofs.lemmas.List.Recursion.{is_count_by}
+use Rattle.lists.specs.Lists.{keep, padded, splice}
+use Rattle.lists.proofs.Laws.{each_take, each_drop, keep_pass, keep_fail, take-padded, part-rest}
 use Rattle.sets.specs.Sets.{has, bit}
 use Rattle.sets.proofs.Laws.{true_has, bit_high}
 use Rattle.logic.specs.Expressions.{code}
-use Rattle.logic.specs.Expressions as Expressions
-use Rattle.logic.specs.Decks.{Equation, base}
+use Rattle.logic.specs.Decks.{Equation, base, total_nodes}
 use Rattle.logic.specs.Pieces.{equations_of}
-use Rattle.logic.proofs.Codes.{length-code, nodes-some}
-use Rattle.decks.specs.Stored.{lefts_of, ends_of, codes}
-use Rattle.decks.specs.Lent.{HoldsEquations}
-use Rattle.decks.proofs.Stored.{length_lefts, length-ends}
+use Rattle.logic.proofs.Codes.{length-code}
+use Rattle.decks.specs.declared.Equations.{Equations}
+use Rattle.decks.specs.Stored.{lefts_of, codes}
+use Rattle.decks.specs.Lent.{HoldsEquations, Hold}
+use Rattle.decks.proofs.Stored.{equation, length_lefts, length-codes, codes_at, within, left_is, end_is, next_end, next_equation}
 use Rattle.frames.specs.Hex.{pair}
 use Rattle.frames.specs.Written.{equation_kind, node_pairs, frame, equation_frames}
 use Rattle.frames.proofs.ExprLaws.{length_node_pairs}
 use Rattle.writing.specs.Parts.{Nodes}
-use Rattle.writing.proofs.Laws.{Wrote, three_parts, nothing_wrote, wrote_part, wrote_length, all_wrote}
-use Rattle.equations.specs.Chosen.{chosen_frame, chosen}
-
--- ---- general
-
-pub nodes-part : (l : List ℕ) (from to : ℕ) → Nodes l → Nodes (part from to l)
-nodes-part l from to ns = each_take (λ (n : ℕ). n < 266) (to - from) (drop from l) (each_drop (λ (n : ℕ). n < 266) from l ns)
+use Rattle.writing.proofs.Laws.{Wrote, three_parts, wrote_part, wrote_length, all_wrote}
+use Rattle.equations.specs.Right.{right_nodes}
 
 -- ---- one equation
 
-pub equation_frame_lem : (left : ℕ) (nodes : List ℕ) (from to : ℕ) (out₀ x y z : List ℕ) → left < 256 → x ≡ splice 0 (pair 3) out₀ → y ≡ splice 0 (pair (left % 256)) (mid_of 2 (length x - 2) x)
-    → z ≡ splice 0 (node_pairs (part from to nodes) ++ (10 ∷ [])) (mid_of 4 (length (put_mid 2 (length x - 2) x y) - 4) (put_mid 2 (length x - 2) x y))
-    → put_mid 4 (length (put_mid 2 (length x - 2) x y) - 4) (put_mid 2 (length x - 2) x y) z ≡ splice 0 (frame equation_kind (pair left ++ node_pairs (part from to nodes))) out₀
-equation_frame_lem left nodes from to out₀ x y z h ex ey ez =
-    let e : left % 256 ≡ left = omega arith in
-    three_parts 2 4 (pair 3) (pair left) (node_pairs (part from to nodes) ++ (10 ∷ [])) out₀ x y z ex refl (ey ∙ ap (λ (n : ℕ). splice 0 (pair n) (mid_of 2 (length x - 2) x)) e) refl ez
+pub equation_frame_lem : (left : ℕ) (nodes out₀ x y z : List ℕ) → x ≡ splice 0 (pair 3) out₀ → y ≡ splice 0 (pair left) (mid_of 2 (length x - 2) x)
+    → z ≡ splice 0 (node_pairs nodes ++ (10 ∷ [])) (mid_of 4 (length (put_mid 2 (length x - 2) x y) - 4) (put_mid 2 (length x - 2) x y))
+    → put_mid 4 (length (put_mid 2 (length x - 2) x y) - 4) (put_mid 2 (length x - 2) x y) z ≡ splice 0 (frame equation_kind (pair left ++ node_pairs nodes)) out₀
+equation_frame_lem left nodes out₀ x y z ex ey ez = three_parts 2 4 (pair 3) (pair left) (node_pairs nodes ++ (10 ∷ [])) out₀ x y z ex refl ey refl ez
 
-pub chosen_in : (vars left : ℕ) (ns : List ℕ) → has vars left ≡ true → chosen_frame vars left ns ≡ frame equation_kind (pair left ++ node_pairs ns)
-unfolding chosen_frame
-chosen_in vars left ns h = simp (h, chosen_frame)
-
-pub chosen_out : (vars left : ℕ) (ns : List ℕ) → has vars left ≡ false → chosen_frame vars left ns ≡ []
-unfolding chosen_frame
-chosen_out vars left ns h = simp (h, chosen_frame)
-
-pub member_low : (vars left : ℕ) → vars < 2 ^ 64 → has vars left ≡ true → left < 64
+-- The variables of a set are below 64.
+member_low : (vars left : ℕ) → vars < 2 ^ 64 → has vars left ≡ true → left < 64
 member_low vars left h e =
     elim (dec_lt left 64) [
       | yes l ↦ l
@@ -61,309 +48,211 @@ member_low vars left h e =
           absurd (omega (arith, b, bit_high vars left (omega (arith, p, h))))
     ]
 
+pub member_fits : (vars left : ℕ) (b : Bool) → vars < 2 ^ 64 → b ≡ has vars left → b ≡ true → left < 256
+member_fits vars left b h e t = omega (arith, member_low vars left h (sym e ∙ t))
+
 length_equation_frame : (left : ℕ) (ns : List ℕ) → length (frame equation_kind (pair left ++ node_pairs ns)) ≡ 2 * length ns + 5
 length_equation_frame left ns = omega (arith, length-append (pair left ++ node_pairs ns) (10 ∷ []), length_node_pairs ns)
 
-pub length-chosen : (vars left : ℕ) (ns : List ℕ) → has vars left ≡ true → length (chosen_frame vars left ns) ≡ 2 * length ns + 5
-length-chosen vars left ns h = ap (λ (l : List ℕ). length l) (chosen_in vars left ns h) ∙ length_equation_frame left ns
+-- ---- the right side of equation i
 
-module _ (vars left from to : ℕ) (ns : List ℕ) (b : Bool) where
-  pub chosen-left : vars < 2 ^ 64 → b ≡ has vars left → b ≡ true → left < 256
-  chosen-left h e t = omega (arith, member_low vars left h (sym e ∙ t))
+module _ (qs : List Equation) (e : Equations) (h : Hold qs e) where
+  begin_is : (i : ℕ) → i < e.count → get_or (0 ∷ e.ends) i 0 ≡ total_nodes (take i qs)
+  unfolding total_nodes
+  begin_is zero k = refl
+  begin_is (suc i) k = let s : i + 1 ≡ suc i = omega arith in end_is qs e.lefts e.ends e.nodes e.count i h (omega arith) ∙ ap (λ (j : ℕ). total_nodes (take j qs)) s
 
-  pub chosen-room : (room : ℕ) → b ≡ has vars left → b ≡ true → to ≤ length ns → length (chosen_frame vars left (part from to ns)) ≤ room → 2 * (to - from) + 5 ≤ room
-  chosen-room room e t h k = omega (arith, length-chosen vars left (part from to ns) (sym e ∙ t), length_part ns from to h)
+  module _ (i : ℕ) (k : i < e.count) where
+    abbrev its : Equation
+    its = equation qs i
 
-  pub chosen-bytes : (r : ℕ) → b ≡ has vars left → b ≡ true → to ≤ length ns → r ≡ 2 * (to - from) + 5 → r ≡ length (chosen_frame vars left (part from to ns))
-  chosen-bytes r e t h k = omega (arith, length-chosen vars left (part from to ns) (sym e ∙ t), length_part ns from to h)
+    its_end : get_or e.ends i 0 ≡ get_or (0 ∷ e.ends) i 0 + length (code its.right)
+    its_end =
+        omega (
+          arith,
+          begin_is i k,
+          end_is qs e.lefts e.ends e.nodes e.count i h k,
+          next_end qs e.lefts e.ends e.nodes e.count i h k,
+          length-code its.right,
+        )
 
-  pub chosen_wrote : (out₀ out : List ℕ) → b ≡ has vars left → b ≡ true → out ≡ splice 0 (frame equation_kind (pair left ++ node_pairs (part from to ns))) out₀
-      → out ≡ splice 0 (chosen_frame vars left (part from to ns)) out₀
-  chosen_wrote out₀ out e t o = o ∙ ap (λ (l : List ℕ). splice 0 l out₀) (sym (chosen_in vars left (part from to ns) (sym e ∙ t)))
+    pub right_rises : get_or (0 ∷ e.ends) i 0 ≤ get_or e.ends i 0
+    right_rises = omega (arith, its_end)
 
-  pub none_bytes : b ≡ has vars left → b ≡ false → 0 ≡ length (chosen_frame vars left (part from to ns))
-  none_bytes e t = ap (λ (l : List ℕ). length l) (sym (chosen_out vars left (part from to ns) (sym e ∙ t)))
+    front : List ℕ
+    front = codes (take i qs)
 
-  pub none_wrote : (out : List ℕ) → b ≡ has vars left → b ≡ false → out ≡ splice 0 (chosen_frame vars left (part from to ns)) out
-  none_wrote out e t = sym (ap (λ (l : List ℕ). splice 0 l out) (chosen_out vars left (part from to ns) (sym e ∙ t)))
+    behind : List ℕ
+    behind = codes (drop (suc i) qs) ++ replicate (base.equation_nodes - length (codes qs)) 0
 
--- ---- arrays that hold equations, equation by equation
+    nodes_split : e.nodes ≡ front ++ (code its.right ++ behind)
+    unfolding front behind
+    nodes_split =
+        let zeros : List ℕ = replicate (base.equation_nodes - length (codes qs)) 0 in
+        let rest : List ℕ = codes (drop (suc i) qs) in
+        h.nodes_are
+        ∙ ap (λ (l : List ℕ). l ++ zeros) (codes_at qs i (within qs e.lefts e.ends e.nodes e.count i h k))
+        ∙ append_assoc (codes (take i qs)) (code its.right ++ rest) zeros
+        ∙ ap (λ (l : List ℕ). codes (take i qs) ++ l) (append_assoc (code its.right) rest zeros)
 
--- From equation i on the arrays hold the rest: its variables, where its nodes end counted from `from`, and its nodes from place `from` on.
-pub record Rest (rest : List Equation) (lefts ends nodes : List ℕ) (n i from : ℕ) : Type 0 where
-  pub behind_lefts : List ℕ
-  pub behind-ends : List ℕ
-  pub behind-nodes : List ℕ
-  pub lefts_from : drop i lefts ≡ lefts_of rest ++ behind_lefts
-  pub ends-from : drop i ends ≡ ends_of from rest ++ behind-ends
-  pub nodes-from : drop from nodes ≡ codes rest ++ behind-nodes
-  pub count-from : n ≡ i + length rest
+    length-front : length front ≡ get_or (0 ∷ e.ends) i 0
+    unfolding front
+    length-front = length-codes (take i qs) ∙ sym (begin_is i k)
 
-pub rest_start : (qs : List Equation) (lefts ends nodes : List ℕ) (n : ℕ) → HoldsEquations qs lefts ends nodes n → Rest qs lefts ends nodes n 0 0
-rest_start qs lefts ends nodes n h =
-    record {
-      behind_lefts = _;
-      behind-ends = _;
-      behind-nodes = _;
-      lefts_from = h.lefts_are;
-      ends-from = h.ends_are;
-      nodes-from = h.nodes_are;
-      count-from = omega (arith, h.count_is);
-    }
+    pub right_within : get_or e.ends i 0 ≤ length e.nodes
+    right_within =
+        omega (
+          arith,
+          its_end,
+          length-front,
+          ap (λ (l : List ℕ). length l) nodes_split,
+          length-append front (code its.right ++ behind),
+          length-append (code its.right) behind,
+        )
 
--- The next equation: what the arrays say of it, and the rest behind it.
-pub record Next (rest : List Equation) (lefts ends nodes : List ℕ) (n i from left to : ℕ) : Type 0 where
-  pub equation : Equation
-  pub others : List Equation
-  pub rest_is : rest ≡ equation ∷ others
-  pub left_is : left ≡ equation.left
-  pub to_is : to ≡ from + Expressions.nodes equation.right
-  pub to_in : to ≤ length nodes
-  pub nodes_are : part from to nodes ≡ code equation.right
-  pub behind : Rest others lefts ends nodes n (i + 1) to
+    pub right_is : right_nodes i e ≡ code its.right
+    right_is =
+        let from = get_or (0 ∷ e.ends) i 0 in
+        let to = get_or e.ends i 0 in
+        ap (λ (l : List ℕ). take (to - from) (drop from l)) nodes_split
+        ∙ ap (take (to - from)) (drop_at front (code its.right ++ behind) from length-front)
+        ∙ take_at (code its.right) behind (to - from) (omega (arith, its_end))
 
--- general:
-drop_head : (l m : List ℕ) (i x : ℕ) → drop i l ≡ x ∷ m → get_or l i 0 ≡ x
-drop_head l m i x e = sym (ap (λ (k : ℕ). get_or l k 0) (add-zero i)) ∙ sym (get_or-drop i l 0 0) ∙ ap (λ (k : List ℕ). get_or k 0 0) e
+    pub left_its : get_or e.lefts i 0 ≡ its.left
+    left_its = left_is qs e.lefts e.ends e.nodes e.count i h k
 
-drop_tail : (l m : List ℕ) (i x : ℕ) → drop i l ≡ x ∷ m → drop (i + 1) l ≡ m
-drop_tail l m i x e = sym (drop-drop 1 i l) ∙ ap (drop 1) e
+    next_its : drop i qs ≡ its ∷ drop (i + 1) qs
+    next_its = next_equation qs e.lefts e.ends e.nodes e.count i h k
 
-module _ (lefts ends nodes : List ℕ) (n i from : ℕ) where
-  next_of : (q : Equation) (qs : List Equation) (left to : ℕ) → Rest (q ∷ qs) lefts ends nodes n i from → left ≡ get_or lefts i 0 → to ≡ get_or ends i 0
-      → Next (q ∷ qs) lefts ends nodes n i from left to
-  unfolding ends_of codes
-  next_of q qs left to r el et =
-      let size : ℕ = Expressions.nodes q.right in
-      let long : length (code q.right) ≡ size = length-code q.right in
-      let end : to ≡ from + size = et ∙ drop_head ends _ i (from + size) r.ends-from in
-      let here : drop from nodes ≡ code q.right ++ (codes qs ++ r.behind-nodes) = r.nodes-from ∙ append_assoc (code q.right) (codes qs) r.behind-nodes in
-      let span : to - from ≡ size = omega arith in
-      let room : length (drop from nodes) ≡ size + length (codes qs ++ r.behind-nodes) =
-      ap (λ (l : List ℕ). length l) here ∙ length-append (code q.right) (codes qs ++ r.behind-nodes) ∙ omega arith in
-      record {
-        equation = q;
-        others = qs;
-        rest_is = refl;
-        left_is = el ∙ drop_head lefts _ i q.left r.lefts_from;
-        to_is = end;
-        to_in = omega (arith, end, room, length-drop from nodes, nodes-some q.right);
-        nodes_are = ap (λ (k : ℕ). take k (drop from nodes)) span ∙ ap (take size) here ∙ take_at (code q.right) (codes qs ++ r.behind-nodes) size long;
-        behind =
-            record {
-              behind_lefts = r.behind_lefts;
-              behind-ends = r.behind-ends;
-              behind-nodes = r.behind-nodes;
-              lefts_from = drop_tail lefts _ i q.left r.lefts_from;
-              ends-from = drop_tail ends _ i (from + size) r.ends-from ∙ ap (λ (k : ℕ). ends_of k qs ++ r.behind-ends) (sym end);
-              nodes-from =
-                  ap (λ (k : ℕ). drop k nodes) end
-                  ∙ sym (drop-drop size from nodes)
-                  ∙ ap (drop size) here
-                  ∙ drop_at (code q.right) (codes qs ++ r.behind-nodes) size long;
-              count-from = omega (arith, r.count-from);
-            };
-      }
+pub right_some : (i : ℕ) (e : Equations) → Nodes e.nodes → Nodes (right_nodes i e)
+right_some i e ns = each_take (λ (n : ℕ). n < 266) _ (drop (get_or (0 ∷ e.ends) i 0) e.nodes) (each_drop (λ (n : ℕ). n < 266) (get_or (0 ∷ e.ends) i 0) e.nodes ns)
 
-  pub next_equation : (rest : List Equation) (left to : ℕ) → Rest rest lefts ends nodes n i from → i < n → left ≡ get_or lefts i 0 → to ≡ get_or ends i 0
-      → Next rest lefts ends nodes n i from left to
-  next_equation [] left to r h el et = absurd (omega (arith, r.count-from))
-  next_equation (q ∷ qs) left to r h el et = next_of q qs left to r el et
+-- ---- the frames of the equations of a set
 
-  pub rest_none : (rest : List Equation) → Rest rest lefts ends nodes n i from → n ≤ i → rest ≡ []
-  rest_none [] r h = refl
-  rest_none (q ∷ qs) r h = absurd (omega (arith, r.count-from))
+-- The frame of equation i.
+abbrev pub frame_at : ℕ → Equations → List ℕ
+frame_at i e = frame equation_kind (pair (get_or e.lefts i 0) ++ node_pairs (right_nodes i e))
 
-module _ (qs : List Equation) (lefts ends nodes : List ℕ) (n i : ℕ) (h : HoldsEquations qs lefts ends nodes n) (k : i < n) where
-  pub left_there : i < length lefts
-  left_there =
-      omega (arith, h.count_is, ap (λ (l : List ℕ). length l) h.lefts_are, length-append (lefts_of qs) (replicate (base.equations - length (lefts_of qs)) 0), length_lefts qs)
+abbrev frames : ℕ → List Equation → List ℕ
+frames vars qs = equation_frames (equations_of vars qs)
 
-  pub end_there : i < length ends
-  end_there =
-      omega (arith, h.count_is, ap (λ (l : List ℕ). length l) h.ends_are, length-append (ends_of 0 qs) (replicate (base.equations - length (ends_of 0 qs)) 0), length-ends 0 qs)
+module _ (vars : ℕ) (qs : List Equation) (e : Equations) (h : Hold qs e) (i : ℕ) (k : i < e.count) (b : Bool) (m : b ≡ has vars (get_or e.lefts i 0)) where
+  of_set : has vars (equation qs i).left ≡ b
+  of_set = ap (has vars) (sym (left_its qs e h i k)) ∙ sym m
 
-frames_next : (vars : ℕ) (q : Equation) (qs : List Equation)
-    → equation_frames (equations_of vars (q ∷ qs)) ≡ chosen_frame vars q.left (code q.right) ++ equation_frames (equations_of vars qs)
-unfolding equation_frames
-frames_next vars q qs = go (has vars q.left) refl
-  where
-    go : (b : Bool) → has vars q.left ≡ b → equation_frames (equations_of vars (q ∷ qs)) ≡ chosen_frame vars q.left (code q.right) ++ equation_frames (equations_of vars qs)
-    go true e = ap equation_frames (keep_pass (λ (r : Equation). has vars r.left) q qs e) ∙ ap (λ (l : List ℕ). l ++ equation_frames (equations_of vars qs)) (sym (chosen_in vars q.left (code q.right) e))
-    go false e = ap equation_frames (keep_fail (λ (r : Equation). has vars r.left) q qs e) ∙ ap (λ (l : List ℕ). l ++ equation_frames (equations_of vars qs)) (sym (chosen_out vars q.left (code q.right) e))
+  -- An equation of a variable of the set is written,
+  pub frames_in : b ≡ true → frames vars (drop i qs) ≡ frame_at i e ++ frames vars (drop (i + 1) qs)
+  unfolding equation_frames
+  frames_in t =
+      let q : Equation = equation qs i in
+      let same : frame equation_kind (pair q.left ++ node_pairs (code q.right)) ≡ frame_at i e =
+      ap (λ (v : ℕ). frame equation_kind (pair v ++ node_pairs (code q.right))) (sym (left_its qs e h i k))
+      ∙ ap (λ (l : List ℕ). frame equation_kind (pair (get_or e.lefts i 0) ++ node_pairs l)) (sym (right_is qs e h i k)) in
+      ap (frames vars) (next_its qs e h i k)
+      ∙ ap equation_frames (keep_pass (λ (r : Equation). has vars r.left) q (drop (i + 1) qs) (of_set ∙ t))
+      ∙ ap (λ (l : List ℕ). l ++ frames vars (drop (i + 1) qs)) same
 
--- Of the equations that the arrays hold, the frames of those of the set are written before equation i.
-abbrev pub EquationsTo : ℕ → List ℕ → List ℕ → List ℕ → ℕ → ℕ → ℕ → ℕ → List ℕ → List ℕ → Type 0
-EquationsTo vars lefts ends nodes n i from used out₀ out =
-    (qs : List Equation) → HoldsEquations qs lefts ends nodes n
-    → (rest : List Equation) × Rest rest lefts ends nodes n i from × Wrote (equation_frames (equations_of vars qs)) (equation_frames (equations_of vars rest)) used out₀ out
+  -- and one of another is not.
+  pub frames_out : b ≡ false → frames vars (drop i qs) ≡ frames vars (drop (i + 1) qs)
+  frames_out f =
+      ap (frames vars) (next_its qs e h i k) ∙ ap equation_frames (keep_fail (λ (r : Equation). has vars r.left) (equation qs i) (drop (i + 1) qs) (of_set ∙ f))
 
-module _ (vars : ℕ) (lefts ends nodes : List ℕ) (n : ℕ) where
-  pub equations_start : (out : List ℕ) → EquationsTo vars lefts ends nodes n 0 0 0 out out
-  equations_start out qs h = (qs, rest_start qs lefts ends nodes n h, nothing_wrote (equation_frames (equations_of vars qs)) out)
+frames_none : (vars : ℕ) (qs : List Equation) (e : Equations) (i : ℕ) → Hold qs e → e.count ≤ i → frames vars (drop i qs) ≡ []
+unfolding equation_frames keep
+frames_none vars qs e i h k = ap (frames vars) (drop_of_length-le qs (omega (arith, h.count_is)))
 
-  module _ (i from used : ℕ) (out₀ out : List ℕ) (qs : List Equation) (h : HoldsEquations qs lefts ends nodes n) where
-    -- What is written is within the buffer.
-    pub used-within : length (equation_frames (equations_of vars qs)) ≤ length out₀ → length out ≡ length out₀ → EquationsTo vars lefts ends nodes n i from used out₀ out → used ≤ length out
-    used-within room same t = omega (arith, room, same, wrote_length _ _ used out₀ out (t qs h).2)
+-- Of the equations the frames of those of the set are written before equation i.
+abbrev pub EquationsTo : ℕ → Equations → ℕ → ℕ → List ℕ → List ℕ → Type 0
+EquationsTo vars e i used out₀ out = (qs : List Equation) → Hold qs e → Wrote (frames vars qs) (frames vars (drop i qs)) used out₀ out
 
-    module _ (left to : ℕ) (t : EquationsTo vars lefts ends nodes n i from used out₀ out) (k : i < n) (el : left ≡ get_or lefts i 0) (et : to ≡ get_or ends i 0) where
-      at_next : Next (t qs h).0 lefts ends nodes n i from left to
-      at_next = next_equation lefts ends nodes n i from (t qs h).0 left to (t qs h).1 k el et
+module _ (vars : ℕ) (e : Equations) where
+  module _ (i used : ℕ) (out₀ out : List ℕ) (t : EquationsTo vars e i used out₀ out) where
+    module _ (qs : List Equation) (h : Hold qs e) (room : length (frames vars qs) ≤ length out₀) (same : length out ≡ length out₀) where
+      -- What is written is within the buffer.
+      pub used-within : used ≤ length out
+      used-within = omega (arith, room, same, wrote_length _ _ used out₀ out (t qs h))
 
-      pub ends_rise : from ≤ to
-      ends_rise = omega (arith, at_next.to_is)
+      module _ (k : i < e.count) (b : Bool) (m : b ≡ has vars (get_or e.lefts i 0)) (y : b ≡ true) where
+        -- The next frame is within what is free.
+        pub next-within : used + (2 * length (right_nodes i e) + 5) ≤ length out
+        next-within =
+            omega (
+              arith,
+              room,
+              same,
+              wrote_length _ _ used out₀ out (t qs h),
+              ap (λ (l : List ℕ). length l) (frames_in vars qs e h i k b m y),
+              length-append (frame_at i e) (frames vars (drop (i + 1) qs)),
+              length_equation_frame (get_or e.lefts i 0) (right_nodes i e),
+            )
 
-      pub ends-within : to ≤ length nodes
-      ends-within = at_next.to_in
+        pub next-free : 2 * length (right_nodes i e) + 5 ≤ length (mid_of used (length out - used) out)
+        next-free = omega (arith, next-within, ap (λ (l : List ℕ). length l) (part-rest used out), length-drop used out)
 
-      chosen_frames : equation_frames (equations_of vars (t qs h).0) ≡ chosen_frame vars left (part from to nodes) ++ equation_frames (equations_of vars at_next.others)
-      chosen_frames =
-          let q : Equation = at_next.equation in
-          ap (λ (rs : List Equation). equation_frames (equations_of vars rs)) at_next.rest_is
-          ∙ frames_next vars q at_next.others
-          ∙ ap
-          (λ (l : List ℕ). l ++ equation_frames (equations_of vars at_next.others))
-          (sym (ap (λ (v : ℕ). chosen_frame vars v (part from to nodes)) at_next.left_is ∙ ap (λ (l : List ℕ). chosen_frame vars q.left l) at_next.nodes_are))
+    module _ (k : i < e.count) (b : Bool) (m : b ≡ has vars (get_or e.lefts i 0)) where
+      pub next_in : (ns ys : List ℕ) (r : ℕ) → b ≡ true → ns ≡ right_nodes i e → r ≡ 2 * length ns + 5
+          → ys ≡ splice 0 (frame equation_kind (pair (get_or e.lefts i 0) ++ node_pairs ns)) (mid_of used (length out - used) out)
+          → EquationsTo vars e (i + 1) (used + r) out₀ (put_mid used (length out - used) out ys)
+      next_in ns ys r y en er ey qs h =
+          let left = get_or e.lefts i 0 in
+          let w : Wrote (frames vars qs) (frames vars (drop i qs)) used out₀ out = t qs h in
+          let more : frames vars (drop i qs) ≡ frame equation_kind (pair left ++ node_pairs ns) ++ frames vars (drop (i + 1) qs) =
+          frames_in vars qs e h i k b m y ∙ ap (λ (l : List ℕ). frame equation_kind (pair left ++ node_pairs l) ++ frames vars (drop (i + 1) qs)) (sym en) in
+          rw (er ∙ sym (length_equation_frame left ns))
+          (wrote_part (frames vars qs) (frames vars (drop (i + 1) qs)) used out₀ out (frame equation_kind (pair left ++ node_pairs ns)) ys (rw more at w) ey)
 
-      -- The next frame is within what is free.
-      chosen-within : length (equation_frames (equations_of vars qs)) ≤ length out₀ → length out ≡ length out₀ → used + length (chosen_frame vars left (part from to nodes)) ≤ length out
-      chosen-within room same =
-          omega (
-            arith,
-            room,
-            same,
-            wrote_length _ _ used out₀ out (t qs h).2,
-            ap (λ (l : List ℕ). length l) chosen_frames,
-            length-append (chosen_frame vars left (part from to nodes)) (equation_frames (equations_of vars at_next.others)),
-          )
+      pub next_out : b ≡ false → EquationsTo vars e (i + 1) used out₀ out
+      next_out f qs h = let w : Wrote (frames vars qs) (frames vars (drop i qs)) used out₀ out = t qs h in rw (frames_out vars qs e h i k b m f) at w
 
-      pub chosen-free : length (equation_frames (equations_of vars qs)) ≤ length out₀ → length out ≡ length out₀
-          → length (chosen_frame vars left (part from to nodes)) ≤ length (mid_of used (length out - used) out)
-      chosen-free room same = omega (arith, chosen-within room same, ap (λ (l : List ℕ). length l) (part-rest used out), length-drop used out)
+    module _ (k : e.count ≤ i) (qs : List Equation) (h : Hold qs e) where
+      pub equations-bytes : used ≡ length (frames vars qs)
+      equations-bytes = omega (arith, wrote_length _ _ used out₀ out (t qs h), ap (λ (l : List ℕ). length l) (frames_none vars qs e i h k))
 
-      pub used-fits : (r : ℕ) → length (equation_frames (equations_of vars qs)) ≤ length out₀ → length out ≡ length out₀ → length out₀ < 2 ^ 64
-          → r ≡ length (chosen_frame vars left (part from to nodes)) → used + r < 2 ^ 64
-      used-fits r room same fits e = omega (arith, chosen-within room same)
-
-  module _ (i from used left to : ℕ) (out₀ out : List ℕ) where
-    pub equations_next : (r : ℕ) (ys : List ℕ) → EquationsTo vars lefts ends nodes n i from used out₀ out → i < n → left ≡ get_or lefts i 0 → to ≡ get_or ends i 0
-        → r ≡ length (chosen_frame vars left (part from to nodes)) → ys ≡ splice 0 (chosen_frame vars left (part from to nodes)) (mid_of used (length out - used) out)
-        → EquationsTo vars lefts ends nodes n (i + 1) to (used + r) out₀ (put_mid used (length out - used) out ys)
-    equations_next r ys t k el et er ey qs h = (
-      (at_next i from used out₀ out qs h left to t k el et).others,
-      (at_next i from used out₀ out qs h left to t k el et).behind,
-      rw er
-          (wrote_part _ _ used out₀ out (chosen_frame vars left (part from to nodes)) ys
-          (rw (chosen_frames i from used out₀ out qs h left to t k el et) at (t qs h).2) ey),
-    )
-
-  module _ (i from used : ℕ) (out₀ out : List ℕ) (k : n ≤ i) (t : EquationsTo vars lefts ends nodes n i from used out₀ out) (qs : List Equation) (h : HoldsEquations qs lefts ends nodes n) where
-    none_left : equation_frames (equations_of vars (t qs h).0) ≡ []
-    unfolding equation_frames keep
-    none_left = ap (λ (rs : List Equation). equation_frames (equations_of vars rs)) (rest_none lefts ends nodes n i from (t qs h).0 (t qs h).1 k)
-
-    pub equations-bytes : used ≡ length (equation_frames (equations_of vars qs))
-    equations-bytes = omega (arith, wrote_length _ _ used out₀ out (t qs h).2, ap (λ (l : List ℕ). length l) none_left)
-
-    pub equations_wrote : out ≡ splice 0 (equation_frames (equations_of vars qs)) out₀
-    equations_wrote = all_wrote _ _ used out₀ out (t qs h).2 none_left
+      pub equations_wrote : out ≡ splice 0 (frames vars qs) out₀
+      equations_wrote = all_wrote _ _ used out₀ out (t qs h) (frames_none vars qs e i h k)
 
 -- ---- counts and sizes
 
-module _ (vars left n : ℕ) (b : Bool) (e : b ≡ has vars left) where
-  pub chosen_it : b ≡ true → n ≡ chosen vars left n
-  unfolding chosen
-  chosen_it t = let h : has vars left ≡ true = sym e ∙ t in simp (h, chosen)
+-- Of the equations the bytes of those of the set are counted before equation i.
+abbrev pub SizeTo : ℕ → Equations → ℕ → ℕ → Type 0
+SizeTo vars e i n = (qs : List Equation) (ns : List ℕ) → HoldsEquations qs e.lefts e.ends ns e.count → n + length (frames vars (drop i qs)) ≡ length (frames vars qs)
 
-  pub chosen_none : b ≡ false → 0 ≡ chosen vars left n
-  unfolding chosen
-  chosen_none f = let h : has vars left ≡ false = sym e ∙ f in simp (h, chosen)
+-- The size needs no nodes: whatever they are.
+abbrev with_nodes : Equations → List ℕ → Equations
+with_nodes e ns = record { count = e.count; lefts = e.lefts; ends = e.ends; nodes = ns }
 
-length-keep_one : (vars left : ℕ) (ls : List ℕ) → length (keep (has vars) (left ∷ ls)) ≡ chosen vars left 1 + length (keep (has vars) ls)
-length-keep_one vars left ls = go (has vars left) refl
-  where
-    go : (b : Bool) → has vars left ≡ b → length (keep (has vars) (left ∷ ls)) ≡ chosen vars left 1 + length (keep (has vars) ls)
-    go true e = omega (arith, ap (λ (l : List ℕ). length l) (keep_pass (has vars) left ls e), chosen_it vars left 1 true (sym e) refl)
-    go false e = omega (arith, ap (λ (l : List ℕ). length l) (keep_fail (has vars) left ls e), chosen_none vars left 1 false (sym e) refl)
+pub rises_somewhere : (e : Equations) (i : ℕ) → ((qs : List Equation) × (ns : List ℕ) × HoldsEquations qs e.lefts e.ends ns e.count) → i < e.count → get_or (0 ∷ e.ends) i 0 ≤ get_or e.ends i 0
+rises_somewhere e i (qs, ns, h) k = right_rises qs (with_nodes e ns) h i k
 
-length-chosen-frame : (vars left : ℕ) (ns : List ℕ) → length (chosen_frame vars left ns) ≡ chosen vars left (2 * length ns + 5)
-length-chosen-frame vars left ns = go (has vars left) refl
-  where
-    go : (b : Bool) → has vars left ≡ b → length (chosen_frame vars left ns) ≡ chosen vars left (2 * length ns + 5)
-    go true e = length-chosen vars left ns e ∙ chosen_it vars left (2 * length ns + 5) true (sym e) refl
-    go false e = ap (λ (l : List ℕ). length l) (chosen_out vars left ns e) ∙ chosen_none vars left (2 * length ns + 5) false (sym e) refl
-
--- Of the first variables those of the set are counted before place i.
-abbrev pub CountTo : ℕ → List ℕ → ℕ → ℕ → ℕ → Type 0
-CountTo vars lefts count i n = n + length (keep (has vars) (part i count lefts)) ≡ length (keep (has vars) (part 0 count lefts))
-
-pub count_next : (vars : ℕ) (lefts : List ℕ) (count i n left r : ℕ) → CountTo vars lefts count i n → i < count → count ≤ length lefts → left ≡ get_or lefts i 0 → r ≡ chosen vars left 1
-    → CountTo vars lefts count (i + 1) (n + r)
-count_next vars lefts count i n left r t h k el er =
-    let one : length (keep (has vars) (part i count lefts)) ≡ r + length (keep (has vars) (part (i + 1) count lefts)) =
-    ap (λ (l : List ℕ). length (keep (has vars) l)) (part_next lefts i count h (omega arith))
-    ∙ length-keep_one vars (get_or lefts i 0) (part (i + 1) count lefts)
-    ∙ ap (λ (m : ℕ). m + length (keep (has vars) (part (i + 1) count lefts))) (ap (λ (v : ℕ). chosen vars v 1) (sym el) ∙ sym er) in
-    omega (arith, t, one)
-
-pub count-done : (vars : ℕ) (lefts : List ℕ) (count i n : ℕ) → CountTo vars lefts count i n → count ≤ i → n ≡ length (keep (has vars) (take count lefts))
-unfolding keep
-count-done vars lefts count i n t h =
-    let none : length (keep (has vars) (part i count lefts)) ≡ 0 = ap (λ (l : List ℕ). length (keep (has vars) l)) (part-done lefts i count h) in
-    let all : count - 0 ≡ count = omega arith in
-    omega (arith, t, none) ∙ ap (λ (k : ℕ). length (keep (has vars) (take k lefts))) all
-
--- Of the equations that the arrays hold, the bytes of those of the set are counted before equation i.
-abbrev pub SizeTo : ℕ → List ℕ → List ℕ → ℕ → ℕ → ℕ → ℕ → Type 0
-SizeTo vars lefts ends n i from bytes =
-    (qs : List Equation) (ns : List ℕ) → HoldsEquations qs lefts ends ns n
-    → (rest : List Equation) × Rest rest lefts ends ns n i from × (bytes + length (equation_frames (equations_of vars rest)) ≡ length (equation_frames (equations_of vars qs)))
-
-module _ (vars : ℕ) (lefts ends : List ℕ) (n : ℕ) where
-  pub size_start : SizeTo vars lefts ends n 0 0 0
-  size_start qs ns h = (qs, rest_start qs lefts ends ns n h, omega arith)
-
-  module _ (i from bytes left to : ℕ) (t : SizeTo vars lefts ends n i from bytes) (k : i < n) (el : left ≡ get_or lefts i 0) (et : to ≡ get_or ends i 0) where
-    size_at : (qs : List Equation) (ns : List ℕ) (h : HoldsEquations qs lefts ends ns n) → Next (t qs ns h).0 lefts ends ns n i from left to
-    size_at qs ns h = next_equation lefts ends ns n i from (t qs ns h).0 left to (t qs ns h).1 k el et
-
-    pub size-rises : (qs : List Equation) (ns : List ℕ) → HoldsEquations qs lefts ends ns n → from ≤ to
-    size-rises qs ns h = omega (arith, (size_at qs ns h).to_is)
-
-    pub size_next : (r : ℕ) → r ≡ chosen vars left (2 * (to - from) + 5) → SizeTo vars lefts ends n (i + 1) to (bytes + r)
-    size_next r er qs ns h =
-        let next = size_at qs ns h in
-        let q : Equation = next.equation in
-        let long : length (code q.right) ≡ to - from = omega (arith, next.to_is, length-code q.right) in
-        let one : length (chosen_frame vars q.left (code q.right)) ≡ r =
-        length-chosen-frame vars q.left (code q.right)
-        ∙ ap (λ (v : ℕ). chosen vars v (2 * length (code q.right) + 5)) (sym next.left_is)
-        ∙ ap (λ (m : ℕ). chosen vars left (2 * m + 5)) long
-        ∙ sym er in (
-          next.others,
-          next.behind,
-          omega (
-            arith,
-            (t qs ns h).2,
-            one,
-            ap (λ (rs : List Equation). length (equation_frames (equations_of vars rs))) next.rest_is,
-            ap (λ (l : List ℕ). length l) (frames_next vars q next.others),
-            length-append (chosen_frame vars q.left (code q.right)) (equation_frames (equations_of vars next.others)),
-          ),
+module _ (vars : ℕ) (e : Equations) (i n : ℕ) (t : SizeTo vars e i n) where
+  module _ (k : i < e.count) (b : Bool) (m : b ≡ has vars (get_or e.lefts i 0)) where
+    pub size_in : (from to : ℕ) → b ≡ true → from ≡ get_or (0 ∷ e.ends) i 0 → to ≡ get_or e.ends i 0 → SizeTo vars e (i + 1) (n + (2 * (to - from) + 5))
+    size_in from to y ef et qs ns h =
+        let e' = with_nodes e ns in
+        omega (
+          arith,
+          t qs ns h,
+          its_end qs e' h i k,
+          ap (λ (l : List ℕ). length l) (right_is qs e' h i k),
+          ap (λ (l : List ℕ). length l) (frames_in vars qs e' h i k b m y),
+          length-append (frame_at i e') (frames vars (drop (i + 1) qs)),
+          length_equation_frame (get_or e.lefts i 0) (right_nodes i e'),
         )
 
-  pub size-done : (i from bytes : ℕ) → SizeTo vars lefts ends n i from bytes → n ≤ i → (qs : List Equation) (ns : List ℕ) → HoldsEquations qs lefts ends ns n
-      → bytes ≡ length (equation_frames (equations_of vars qs))
-  unfolding equation_frames keep
-  size-done i from bytes t k qs ns h =
-      let none : length (equation_frames (equations_of vars (t qs ns h).0)) ≡ 0 =
-      ap (λ (rs : List Equation). length (equation_frames (equations_of vars rs))) (rest_none lefts ends ns n i from (t qs ns h).0 (t qs ns h).1 k) in
-      omega (arith, (t qs ns h).2, none)
+    pub size_out : b ≡ false → SizeTo vars e (i + 1) n
+    size_out f qs ns h = ap (λ (l : List ℕ). n + length l) (sym (frames_out vars qs (with_nodes e ns) h i k b m f)) ∙ t qs ns h
 
-pub lefts_there : (qs : List Equation) (lefts ends nodes : List ℕ) (n : ℕ) → HoldsEquations qs lefts ends nodes n → n ≤ length lefts
-lefts_there qs lefts ends nodes n h =
-    omega (arith, h.count_is, ap (λ (l : List ℕ). length l) h.lefts_are, length-append (lefts_of qs) (replicate (base.equations - length (lefts_of qs)) 0), length_lefts qs)
+  pub size-done : e.count ≤ i → (qs : List Equation) (ns : List ℕ) → HoldsEquations qs e.lefts e.ends ns e.count → n ≡ length (frames vars qs)
+  size-done k qs ns h = omega (arith, t qs ns h, ap (λ (l : List ℕ). length l) (frames_none vars qs (with_nodes e ns) i h k))
+
+-- A count by the library's word.
+pub counted : (t : ℕ → Bool) (l : List ℕ) → length (keep t l) ≡ count_by t l
+unfolding keep
+counted t l = is_count_by (λ (m : List ℕ). length (keep t m)) t refl (λ x xs. go x xs (t x) refl) l
+  where
+    go : (x : ℕ) (xs : List ℕ) (b : Bool) → t x ≡ b → length (keep t (x ∷ xs)) ≡ cond (t x) (1 + length (keep t xs)) (length (keep t xs))
+    go x xs true e = ap (λ (m : List ℕ). length m) (keep_pass t x xs e) ∙ rw e (omega arith)
+    go x xs false e = ap (λ (m : List ℕ). length m) (keep_fail t x xs e) ∙ rw e refl
 
 length-keep_lefts : (vars : ℕ) (qs : List Equation) → length (keep (has vars) (lefts_of qs)) ≡ length (equations_of vars qs)
 unfolding keep
@@ -382,9 +271,9 @@ length-keep_lefts vars (q ∷ qs) = go (has vars q.left) refl (length-keep_lefts
         ∙ sym (ap (λ (l : List Equation). length l) (keep_fail (λ (r : Equation). has vars r.left) q qs e))
 
 -- The variables of the set on the left sides are as many as its equations.
-pub count_is_equations : (vars : ℕ) (qs : List Equation) (lefts ends nodes : List ℕ) (n : ℕ) → HoldsEquations qs lefts ends nodes n → length (keep (has vars) (take n lefts)) ≡ length (equations_of vars qs)
-count_is_equations vars qs lefts ends nodes n h =
-    let long : n ≡ length (lefts_of qs) = omega (arith, h.count_is, length_lefts qs) in
+pub count_is_equations : (vars : ℕ) (qs : List Equation) (e : Equations) → Hold qs e → length (keep (has vars) (take e.count e.lefts)) ≡ length (equations_of vars qs)
+count_is_equations vars qs e h =
+    let long : e.count ≡ length (lefts_of qs) = omega (arith, h.count_is, length_lefts qs) in
     ap (λ (l : List ℕ). length (keep (has vars) l))
-    (ap (λ (l : List ℕ). take n l) h.lefts_are ∙ ap (λ (k : ℕ). take k (padded base.equations (lefts_of qs))) long ∙ take-padded base.equations (lefts_of qs))
+    (ap (λ (l : List ℕ). take e.count l) h.lefts_are ∙ ap (λ (k : ℕ). take k (padded base.equations (lefts_of qs))) long ∙ take-padded base.equations (lefts_of qs))
     ∙ length-keep_lefts vars qs

@@ -1,111 +1,90 @@
 // The equations of a set's variables, written as frames and counted.
 #![tactic(auto)]
 
-ghost use Rattle.std.specs.Prelude.{◌≡◌, List, ◌++◌, ℕ, ◌+◌, ◌-◌, ◌*◌, ◌<◌, ◌≤◌, length, take};
-ghost use Rattle.lists.specs.Lists.{splice, keep, part};
+ghost use Rattle.std.specs.Prelude.{◌≡◌, List, ◌++◌, ℕ, ◌+◌, ◌*◌, ◌<◌, ◌≤◌, length, take};
+ghost use Rattle.lists.specs.Lists.{splice, keep};
 ghost use Rattle.sets.specs.Sets.{has};
 ghost use Rattle.logic.specs.Decks.{Equation, base};
 ghost use Rattle.logic.specs.Pieces.{equations_of};
-ghost use Rattle.decks.specs.Lent.{HoldsEquations};
+ghost use Rattle.decks.specs.Lent.{HoldsEquations, Hold};
 ghost use Rattle.frames.specs.Hex.{pair};
 ghost use Rattle.frames.specs.Written.{equation_kind, node_pairs, frame, equation_frames};
 ghost use Rattle.writing.specs.Parts.{Nodes};
-ghost use Rattle.equations.specs.Chosen.{chosen_frame, chosen};
+ghost use Rattle.equations.specs.Right.{right_begin, right_nodes};
+
+use decks::Equations;
+
+// Where the nodes of equation i begin.
+fn begin_of(equations: &Equations, i: usize) -> usize
+    requires { i < base.equations }
+    ensures { result ≡ right_begin i equations.now }
+{
+    if i == 0 {
+        return 0;
+    }
+    usize::from(equations.ends[i - 1])
+}
+
+// The nodes of the right side of equation i.
+fn right_of(equations: &Equations, i: usize) -> &[u16]
+    requires { (qs : List Equation) × Hold qs equations.now × (i < equations.now.count) }
+    ensures { result.now ≡ right_nodes i equations.now }
+{
+    let from = begin_of(equations, i);
+    let to = usize::from(equations.ends[i]);
+    &equations.nodes[from..to]
+}
 
 // The frame of an equation, and its length.
-pub fn put_equation(out: &mut [u8], left: usize, nodes: &[u16], from: usize, to: usize) -> usize
-    requires { (left < 256) × (from ≤ to) × (to ≤ length nodes.now) × (2 * (to - from) + 5 ≤ length out.old) × Nodes (part from to nodes.now) }
-    ensures { (result ≡ 2 * (to - from) + 5) × (out.new ≡ splice 0 (frame equation_kind (pair left ++ node_pairs (part from to nodes.now))) out.old) }
+pub fn put_equation(out: &mut [u8], left: u16, nodes: &[u16]) -> usize
+    requires { (left < 256) × (2 * length nodes.now + 5 ≤ length out.old) × Nodes nodes.now }
+    ensures { (result ≡ 2 * length nodes.now + 5) × (out.new ≡ splice 0 (frame equation_kind (pair left ++ node_pairs nodes.now)) out.old) }
 {
     writing::put_byte(out, 3);
-    writing::put_byte(&mut out[2..], (left % 256) as u8);
-    let n = writing::put_line(&mut out[4..], nodes, from, to);
+    writing::put_byte(&mut out[2..], left as u8);
+    let n = writing::put_line(&mut out[4..], nodes);
     n + 4
 }
 
-// The frame of an equation of a variable of the set, and its length; of another, nothing.
-pub fn put_chosen(
-    out: &mut [u8],
-    vars: u64,
-    left: usize,
-    nodes: &[u16],
-    from: usize,
-    to: usize,
-) -> usize
-    requires { (from ≤ to) × (to ≤ length nodes.now) × Nodes (part from to nodes.now) × (length (chosen_frame vars left (part from to nodes.now)) ≤ length out.old) }
-    ensures { (result ≡ length (chosen_frame vars left (part from to nodes.now))) × (out.new ≡ splice 0 (chosen_frame vars left (part from to nodes.now)) out.old) }
-{
-    if sets::member(vars, left) {
-        return put_equation(out, left, nodes, from, to);
-    }
-    0
-}
-
 // The frames of the equations of the set's variables, and their length.
-pub fn put_equations(
-    out: &mut [u8],
-    vars: u64,
-    lefts: &[u16],
-    ends: &[u16],
-    nodes: &[u16],
-    count: usize,
-) -> usize
-    requires { Nodes nodes.now × ((qs : List Equation) × HoldsEquations qs lefts.now ends.now nodes.now count × (length (equation_frames (equations_of vars qs)) ≤ length out.old)) }
-    ensures { (qs : List Equation) → HoldsEquations qs lefts.now ends.now nodes.now count → (result ≡ length (equation_frames (equations_of vars qs))) × (out.new ≡ splice 0 (equation_frames (equations_of vars qs)) out.old) }
+// This and the size below walk each by itself: of what a closure changes at each equation nothing would be known after the walk.
+pub fn put_equations(out: &mut [u8], vars: u64, equations: &Equations) -> usize
+    requires { Nodes equations.now.nodes × ((qs : List Equation) × Hold qs equations.now × (length (equation_frames (equations_of vars qs)) ≤ length out.old)) }
+    ensures { (qs : List Equation) → Hold qs equations.now → (result ≡ length (equation_frames (equations_of vars qs))) × (out.new ≡ splice 0 (equation_frames (equations_of vars qs)) out.old) }
 {
-    let mut i = 0;
-    let mut from = 0;
     let mut used = 0;
-    while i < count {
-        let left = decks::place_at(lefts, i);
-        let to = decks::place_at(ends, i);
-        let n = put_chosen(&mut out[used..], vars, left, nodes, from, to);
-        used += n;
-        from = to;
-        i += 1;
+    for i in 0..equations.count {
+        let left = equations.lefts[i];
+        if sets::member(vars, usize::from(left)) {
+            used += put_equation(&mut out[used..], left, right_of(equations, i));
+        }
     }
     used
 }
 
-// n for a variable of the set; 0 for another.
-fn of_set(vars: u64, left: usize, n: usize) -> usize
-    ensures { (result ≡ chosen vars left n) × (result ≤ n) }
+// How many equations are of the set's variables.
+pub fn count_of(vars: u64, equations: &Equations) -> usize
+    requires { equations.now.count ≤ base.equations }
+    ensures { (result ≡ length (keep (has vars) (take equations.now.count equations.now.lefts))) × (result ≤ equations.now.count) }
 {
-    if sets::member(vars, left) {
-        return n;
-    }
-    0
-}
-
-// How many of the first variables are of the set.
-pub fn count_of(vars: u64, lefts: &[u16], count: usize) -> usize
-    requires { count ≤ length lefts.now }
-    ensures { (result ≡ length (keep (has vars) (take count lefts.now))) × (result ≤ count) }
-{
-    let mut i = 0;
-    let mut n = 0;
-    while i < count {
-        let left = decks::place_at(lefts, i);
-        n += of_set(vars, left, 1);
-        i += 1;
-    }
-    n
+    equations.lefts[..equations.count]
+        .iter()
+        .filter(|left| sets::member(vars, usize::from(**left)))
+        .count()
 }
 
 // The length of the frames of the equations of the set's variables.
-pub fn equations_size(vars: u64, lefts: &[u16], ends: &[u16], count: usize) -> usize
-    requires { (count ≤ base.equations) × ((qs : List Equation) × (ns : List ℕ) × HoldsEquations qs lefts.now ends.now ns count) }
-    ensures { (result ≤ 131075 * count) × ((qs : List Equation) (ns : List ℕ) → HoldsEquations qs lefts.now ends.now ns count → result ≡ length (equation_frames (equations_of vars qs))) }
+pub fn equations_size(vars: u64, equations: &Equations) -> usize
+    requires { (equations.now.count ≤ base.equations) × ((qs : List Equation) × (ns : List ℕ) × HoldsEquations qs equations.now.lefts equations.now.ends ns equations.now.count) }
+    ensures { (result ≤ 131075 * equations.now.count) × ((qs : List Equation) (ns : List ℕ) → HoldsEquations qs equations.now.lefts equations.now.ends ns equations.now.count → result ≡ length (equation_frames (equations_of vars qs))) }
 {
-    let mut i = 0;
-    let mut from = 0;
     let mut n = 0;
-    while i < count {
-        let left = decks::place_at(lefts, i);
-        let to = decks::place_at(ends, i);
-        n += of_set(vars, left, 2 * (to - from) + 5);
-        from = to;
-        i += 1;
+    for i in 0..equations.count {
+        if sets::member(vars, usize::from(equations.lefts[i])) {
+            let from = begin_of(equations, i);
+            let to = usize::from(equations.ends[i]);
+            n += 2 * (to - from) + 5;
+        }
     }
     n
 }

@@ -25,6 +25,11 @@ pub record Done (f : ℕ → ℕ → ℕ) (i : ℕ) (old new : List ℕ) : Type 
   pub before : (j : ℕ) → j < i → j < length old → get_or new j 0 ≡ f j (get_or old j 0)
   pub behind : (j : ℕ) → i ≤ j → get_or new j 0 ≡ get_or old j 0
 
+-- Every word is what the step can make of its place and of the word that it was.
+pub record Made (Step : ℕ → ℕ → ℕ → Type 0) (old new : List ℕ) : Type 0 where
+  pub same : length new ≡ length old
+  pub each : (i : ℕ) → i < length old → Step i (get_or old i 0) (get_or new i 0)
+
 -- Every word is what f makes of it.
 abbrev pub All : (ℕ → ℕ → ℕ) → List ℕ → List ℕ → Type 0
 All f old new = Done f (length old) old new

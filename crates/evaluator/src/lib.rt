@@ -2,32 +2,17 @@
 // Each operator but `U` and `W`, which are in `sweeps`, is one pass over the words. What `~`, `&`, `+` and a variable do to a word has no branch, so that their passes run on vectors.
 #![tactic(auto)]
 
-ghost use Rattle.std.specs.Prelude.{◌≡◌, ◌+◌, ◌*◌, ◌-◌, ◌/◌, ◌%◌, ◌^◌, ◌<◌, min, max, length, get_or, set};
-ghost use Rattle.sets.specs.Sets.{bit};
-ghost use Rattle.evaluator.specs.Pending.{top, second, pushed, topped, joined, All, Below, variable_word, next_word};
+ghost use Rattle.std.specs.Prelude.{◌≡◌, ℕ, ◌+◌, ◌*◌, ◌-◌, ◌/◌, ◌%◌, ◌^◌, ◌<◌, min, max, length, get_or};
+ghost use Rattle.evaluator.specs.Pending.{top, second, Made, pushed, topped, joined, All, Below, variable_word, next_word};
 
-// The word at place i.
-pub fn word_at(words: &[u64], i: usize) -> u64
-    requires { i < length words.now }
-    ensures { result ≡ get_or words.now i 0 }
+// Every word becomes what f makes of its place and of the word.
+pub fn each<F: Fn(usize, u64) -> u64>(words: &mut [u64], f: F)
+    requires { (i : ℕ) → i < length words.old → F.pre f i (get_or words.old i 0) }
+    ensures { Made (F.post f) words.old words.new }
 {
-    words[i]
-}
-
-// A word stored at place i.
-pub fn put_word(words: &mut [u64], i: usize, w: u64)
-    requires { i < length words.old }
-    ensures { words.new ≡ set words.old i w }
-{
-    words[i] = w;
-}
-
-// The word with one more value.
-fn push_value(w: u64, x: u64) -> u64
-    requires { (w < 2 ^ 63) × (x < 2) }
-    ensures { result ≡ pushed w x }
-{
-    2 * w + x
+    for (i, w) in words.iter_mut().enumerate() {
+        *w = f(i, *w);
+    }
 }
 
 // A constant at every state.
@@ -35,19 +20,7 @@ pub fn push(words: &mut [u64], x: u64)
     requires { Below 63 words.old × (x < 2) }
     ensures { All (λ i w. pushed w x) words.old words.new }
 {
-    let mut i = 0;
-    while i < words.len() {
-        put_word(words, i, push_value(word_at(words, i), x));
-        i += 1;
-    }
-}
-
-// The value of the variable in state i.
-pub fn value_at(states: &[u64], i: usize, v: usize) -> u64
-    requires { i < length states.now }
-    ensures { (result ≡ bit (get_or states.now i 0) v) × (result < 2) }
-{
-    sets::digit(decks::state_at(states, i), v)
+    each(words, |_, w| 2 * w + x);
 }
 
 // The value of the variable at every state.
@@ -55,77 +28,28 @@ pub fn push_variable(words: &mut [u64], states: &[u64], v: usize)
     requires { Below 63 words.old × (length words.old ≡ length states.now) }
     ensures { All (variable_word states.now v) words.old words.new }
 {
-    let mut i = 0;
-    while i < words.len() {
-        put_word(
-            words,
-            i,
-            push_value(word_at(words, i), value_at(states, i, v)),
-        );
-        i += 1;
-    }
-}
-
-// The word with the other value on top.
-fn other_top(w: u64) -> u64
-    ensures { result ≡ topped w (1 - top w) }
-{
-    2 * (w / 2) + (1 - w % 2)
+    each(words, |i, w| 2 * w + sets::digit(states[i], v));
 }
 
 // `~` at every state.
 pub fn flip(words: &mut [u64])
     ensures { All (λ i w. topped w (1 - top w)) words.old words.new }
 {
-    let mut i = 0;
-    while i < words.len() {
-        put_word(words, i, other_top(word_at(words, i)));
-        i += 1;
-    }
-}
-
-// The word with the lesser of its two topmost values for both.
-fn lesser_top(w: u64) -> u64
-    ensures { result ≡ joined w (min (second w) (top w)) }
-{
-    2 * (w / 4) + (w / 2 & w) % 2
+    each(words, |_, w| 2 * (w / 2) + (1 - w % 2));
 }
 
 // `&` at every state.
 pub fn both(words: &mut [u64])
     ensures { All (λ i w. joined w (min (second w) (top w))) words.old words.new }
 {
-    let mut i = 0;
-    while i < words.len() {
-        put_word(words, i, lesser_top(word_at(words, i)));
-        i += 1;
-    }
-}
-
-// The word with the larger of its two topmost values for both.
-fn larger_top(w: u64) -> u64
-    ensures { result ≡ joined w (max (second w) (top w)) }
-{
-    2 * (w / 4) + (w / 2 | w) % 2
+    each(words, |_, w| 2 * (w / 4) + (w / 2 & w) % 2);
 }
 
 // `+` at every state.
 pub fn either(words: &mut [u64])
     ensures { All (λ i w. joined w (max (second w) (top w))) words.old words.new }
 {
-    let mut i = 0;
-    while i < words.len() {
-        put_word(words, i, larger_top(word_at(words, i)));
-        i += 1;
-    }
-}
-
-// The word with 1 below its top.
-fn over_one(w: u64) -> u64
-    requires { w < 2 ^ 63 }
-    ensures { result ≡ pushed (topped w 1) (top w) }
-{
-    4 * (w / 2) + 2 + w % 2
+    each(words, |_, w| 2 * (w / 4) + (w / 2 | w) % 2);
 }
 
 // 1 below the topmost value at every state.
@@ -133,26 +57,7 @@ pub fn lift(words: &mut [u64])
     requires { Below 63 words.old }
     ensures { All (λ i w. pushed (topped w 1) (top w)) words.old words.new }
 {
-    let mut i = 0;
-    while i < words.len() {
-        put_word(words, i, over_one(word_at(words, i)));
-        i += 1;
-    }
-}
-
-// The word with the top of the other word on top.
-fn with_top(w: u64, other: u64) -> u64
-    ensures { result ≡ topped w (top other) }
-{
-    2 * (w / 2) + other % 2
-}
-
-// The top of the other word on top of word i.
-fn put_top(words: &mut [u64], i: usize, other: u64)
-    requires { i < length words.old }
-    ensures { words.new ≡ set words.old i (topped (get_or words.old i 0) (top other)) }
-{
-    put_word(words, i, with_top(word_at(words, i), other));
+    each(words, |_, w| 4 * (w / 2) + 2 + w % 2);
 }
 
 // `X` at every state: the last one is followed by state p.
@@ -160,12 +65,11 @@ pub fn next(words: &mut [u64], p: usize)
     requires { p < length words.old }
     ensures { All (next_word p words.old) words.old words.new }
 {
-    let home = p;
-    let back = word_at(words, home);
-    let mut i = 0;
-    while i + 1 < words.len() {
-        put_top(words, i, word_at(words, i + 1));
-        i += 1;
+    let back = words[p];
+    let last = words.len() - 1;
+    // By index: each turn reads the word behind the one that it writes, and neither `each` nor an iterator lends both.
+    for i in 0..last {
+        words[i] = 2 * (words[i] / 2) + words[i + 1] % 2;
     }
-    put_top(words, i, back);
+    words[last] = 2 * (words[last] / 2) + back % 2;
 }

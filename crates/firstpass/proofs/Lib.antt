@@ -1,2 +1,2 @@
 pub mod Laws
-mod Cases
+pub mod Cases

@@ -1,11 +1,12 @@
-// One card: its columns, its kind and its field; and the first pass, card by card, the faults 2 to 7.
+// The cards of a text; one card: its columns, its kind and its field; and the first pass, card by card, the faults 2 to 7.
 #![tactic(auto)]
 
-ghost use Rattle.std.specs.Prelude.{◌≡◌, not, ◌&&◌, ◌+◌, ◌-◌, ◌<◌, ◌≤◌, min, leb, length, take, drop};
-ghost use Rattle.cards.specs.Card.{cards_of, field_start, field_end, column, columns, every, is_blank, printable, is_comment, Continuing, numbered, kind_of, opened, card_in_form, in_form};
-ghost use Rattle.firstpass.specs.Passed.{between, free, kind_is, open_of, outcome_of, passed};
+ghost use Rattle.std.specs.Prelude.{◌≡◌, not, ◌∷◌, ◌+◌, ◌-◌, ◌^◌, ◌<◌, ◌≤◌, length, take, drop, MatchOption};
+ghost use Rattle.decks.specs.Answers.{said};
+ghost use Rattle.cards.specs.Card.{cards_of, field_start, field_end, column, columns, every, is_blank, printable, is_comment, numbered, kind_of, opened, card_in_form, in_form};
+ghost use Rattle.firstpass.specs.Passed.{between, kind_is, open_of, outcome_of};
 
-use decks::Answer;
+use decks::Refusal;
 use ends::line_end;
 
 // The columns of a card (RULES 2.2): how many it has, where the statement field begins and ends; and the continuations that a statement may have.
@@ -18,7 +19,7 @@ pub const FIELD_END: usize = 72;
 pub const CONTINUATIONS: u64 = 19;
 
 // The kinds of card.
-#[derive(Clone, Copy)]
+#[derive(Clone, Copy, PartialEq, Eq)]
 pub enum CardKind {
     Comment,
     Empty,
@@ -26,92 +27,68 @@ pub enum CardKind {
     Continuing,
 }
 
-// What a card comes to: the open statement behind it (0 none, k + 1 one with k continuations), or a refusal.
-#[derive(Clone, Copy)]
-pub enum Carded {
-    Next(u64),
-    Fault(Answer),
-}
-
 // As many bytes as are looked at together.
 const BLOCK: usize = 8;
 
-// All before, and this byte is not below low.
-fn and_from(all: bool, b: u8, low: u8) -> bool
-    ensures { result ≡ (leb low b && all) }
-{
-    if b < low {
-        return false;
-    }
-    all
+// The cards of a text from one of them on: what is left of the text, and the number of the first.
+#[derive(Clone, Copy)]
+pub struct Cards<'a> {
+    pub text: &'a [u8],
+    pub n: u64,
+    pub ghost counted: { n + length text.now < 2 ^ 64 },
 }
 
-// All before, and this byte is not above high.
-fn and_to(all: bool, b: u8, high: u8) -> bool
-    ensures { result ≡ (leb b high && all) }
-{
-    if high < b {
-        return false;
+impl<'a> Cards<'a> {
+    // All cards of a text.
+    pub fn of(text: &'a [u8]) -> Cards<'a>
+        ensures text { result.text.now ≡ text.now }
+        ensures first { result.n ≡ 1 }
+    {
+        Cards { text, n: 1 }
     }
-    all
+
+    // The first card, and those behind it; none where nothing is left of the text.
+    pub fn split_first(self) -> Option<(&'a [u8], Cards<'a>)>
+        ensures { MatchOption result (length self.entry.text.now ≡ 0) (λ p. (cards_of self.entry.text.now ≡ p.0.now ∷ cards_of p.1.text.now) × (p.1.n ≡ self.entry.n + 1) × (length p.1.text.now < length self.entry.text.now)) }
+    {
+        let text = self.text;
+        if text.is_empty() {
+            return None;
+        }
+        let end = line_end(text, 0);
+        let next = text.len().min(end + 1);
+        let behind = Cards {
+            text: &text[next..],
+            n: self.n + 1,
+        };
+        Some((&text[..end], behind))
+    }
 }
 
-// Every byte of a block is one of low to high. No byte is passed over, so that they are looked at side by side.
-fn block_between(part: &[u8], at: usize, low: u8, high: u8) -> bool
-    requires { at + 8 ≤ length part.now }
-    ensures { result ≡ every (between low high) (take 8 (drop at part.now)) }
+// Every byte is one of low to high. None is passed over, so that they are looked at side by side.
+fn side_by_side(part: &[u8], low: u8, high: u8) -> bool
+    ensures { result ≡ every (between low high) part.now }
 {
     let mut all = true;
-    let mut i = 0;
-    while i < BLOCK {
-        let b = part[at + i];
-        let from = and_from(all, b, low);
-        all = and_to(from, b, high);
-        i += 1;
+    for b in part {
+        all = all & (low <= *b) & (*b <= high);
     }
     all
 }
 
-// Every byte from a place on is one of low to high.
-fn rest_between(part: &[u8], at: usize, low: u8, high: u8) -> bool
-    requires { at ≤ length part.now }
-    ensures { result ≡ every (between low high) (drop at part.now) }
-{
-    let mut i = at;
-    while i < part.len() {
-        if part[i] < low {
-            return false;
-        }
-        if high < part[i] {
-            return false;
-        }
-        i += 1;
-    }
-    true
-}
-
-// Every byte is one of low to high.
+// Every byte is one of low to high. In blocks: to look at a whole part side by side takes up to half as long again on cards that
+// are soon known not to be blank, and the library's all, byte by byte, twice as long on full cards.
 fn all_between(part: &[u8], low: u8, high: u8) -> bool
     ensures { result ≡ every (between low high) part.now }
 {
     let mut i = 0;
     while BLOCK <= part.len() - i {
-        if !block_between(part, i, low, high) {
+        if !side_by_side(&part[i..i + BLOCK], low, high) {
             return false;
         }
         i += BLOCK;
     }
-    rest_between(part, i, low, high)
-}
-
-// The smaller of two.
-fn least(a: usize, b: usize) -> usize
-    ensures { result ≡ min a b }
-{
-    if a < b {
-        return a;
-    }
-    b
+    side_by_side(&part[i..], low, high)
 }
 
 // Every byte of the card is one that a card may hold.
@@ -126,12 +103,10 @@ pub fn blank_columns(card: &[u8], first: usize, last: usize) -> bool
     requires { 1 ≤ first }
     ensures { result ≡ every is_blank (columns first last card.now) }
 {
-    let start = first - 1;
-    let end = least(last, card.len());
-    if end <= start {
-        return true;
+    match card.get(first - 1..last.min(card.len())) {
+        Some(part) => all_between(part, b' ', b' '),
+        None => true,
     }
-    all_between(&card[start..end], b' ', b' ')
 }
 
 // Column c.
@@ -139,10 +114,7 @@ pub fn column(card: &[u8], c: usize) -> u8
     requires { 1 ≤ c }
     ensures { result ≡ column c card.now }
 {
-    if card.len() < c {
-        return b' ';
-    }
-    card[c - 1]
+    card.get(c - 1).copied().unwrap_or(b' ')
 }
 
 // Columns 73 to 80 are all blank or exactly eight digits.
@@ -152,21 +124,17 @@ pub fn is_numbered(card: &[u8]) -> bool
     if blank_columns(card, FIELD_END + 1, COLUMNS) {
         return true;
     }
-    if card.len() < COLUMNS {
-        return false;
+    match card.get(FIELD_END..COLUMNS) {
+        Some(part) => all_between(part, b'0', b'9'),
+        None => false,
     }
-    all_between(&card[FIELD_END..COLUMNS], b'0', b'9')
 }
 
 // Column 1 is `C` or `*`.
 pub fn is_comment(card: &[u8]) -> bool
     ensures { result ≡ is_comment card.now }
 {
-    let c = column(card, 1);
-    if c == b'C' {
-        return true;
-    }
-    c == b'*'
+    matches!(column(card, 1), b'C' | b'*')
 }
 
 // The kind of a card.
@@ -179,112 +147,75 @@ pub fn kind_of(card: &[u8]) -> CardKind
     if blank_columns(card, 1, FIELD_END) {
         return CardKind::Empty;
     }
-    let c = column(card, 6);
-    if c == b' ' {
-        return CardKind::Opening;
+    match column(card, 6) {
+        b' ' | b'0' => CardKind::Opening,
+        _ => CardKind::Continuing,
     }
-    if c == b'0' {
-        return CardKind::Opening;
-    }
-    CardKind::Continuing
 }
 
 // The statement field as it stands on the card: from its seventh byte to at most its seventy-second.
 pub fn field<'a>(card: &'a [u8]) -> &'a [u8]
     ensures { result.now ≡ drop (field_start - 1) (take field_end card.now) }
 {
-    let start = least(card.len(), FIELD_START - 1);
-    let end = least(card.len(), FIELD_END);
+    let start = card.len().min(FIELD_START - 1);
+    let end = card.len().min(FIELD_END);
     &card[start..end]
 }
 
-// Comments are free of 4 and 5.
-fn is_free(kind: CardKind) -> bool
-    ensures { result ≡ free (kind_is kind) }
-{
-    match kind {
-        CardKind::Comment => true,
-        CardKind::Empty => false,
-        CardKind::Opening => false,
-        CardKind::Continuing => false,
-    }
-}
-
-// Not right, on a card that is not free of it.
-fn is_wrong(free: bool, right: bool) -> bool
-    ensures { result ≡ (not free && not right) }
-{
-    if free {
-        return false;
-    }
-    !right
-}
-
-// A continuation card, number n: 6 and 7.
-fn continued(n: u64, hand: u64) -> Carded
-    ensures { outcome_of result ≡ opened n Continuing (open_of hand) }
-{
-    if hand == 0 {
-        return Carded::Fault(Answer::NoneOpen(n));
-    }
-    if CONTINUATIONS < hand {
-        return Carded::Fault(Answer::TooManyCards(n));
-    }
-    Carded::Next(hand + 1)
-}
-
-// What a card of this kind, number n, makes of the open statement.
-fn opened(n: u64, kind: CardKind, hand: u64) -> Carded
+// What a card of this kind, number n, makes of the open statement, of which it is known how many cards continue it: 6 and 7.
+#[tactic(auto, unfolding(cards::specs::Card::opened))]
+fn opened(n: u64, kind: CardKind, hand: Option<u64>) -> Result<Option<u64>, Refusal>
     ensures { outcome_of result ≡ opened n (kind_is kind) (open_of hand) }
 {
     match kind {
-        CardKind::Comment => Carded::Next(hand),
-        CardKind::Empty => Carded::Next(0),
-        CardKind::Opening => Carded::Next(1),
-        CardKind::Continuing => continued(n, hand),
+        CardKind::Comment => Ok(hand),
+        CardKind::Empty => Ok(None),
+        CardKind::Opening => Ok(Some(0)),
+        CardKind::Continuing => match hand {
+            None => Err(Refusal::NoneOpen(n)),
+            Some(k) if k < CONTINUATIONS => Ok(Some(k + 1)),
+            Some(_) => Err(Refusal::TooManyCards(n)),
+        },
     }
+}
+
+// Whether 4 and 5 are looked for: comments are free of them.
+fn is_judged(card: &[u8]) -> bool
+    ensures { result ≡ not (is_comment card.now) }
+{
+    !is_comment(card)
 }
 
 // Card n, with what the cards before it left open: 2 to 7 in number order.
-pub fn card_fault(card: &[u8], n: u64, hand: u64) -> Carded
+pub fn card_fault(card: &[u8], n: u64, hand: Option<u64>) -> Result<Option<u64>, Refusal>
     ensures { outcome_of result ≡ card_in_form n card.now (open_of hand) }
 {
-    let kind = kind_of(card);
     if !all_printable(card) {
-        return Carded::Fault(Answer::BadByte(n));
+        return Err(Refusal::BadByte(n));
     }
     if COLUMNS < card.len() {
-        return Carded::Fault(Answer::TooWide(n));
+        return Err(Refusal::TooWide(n));
     }
-    let free = is_free(kind);
-    if is_wrong(free, blank_columns(card, 1, 5)) {
-        return Carded::Fault(Answer::BadStart(n));
+    if is_judged(card) {
+        if !blank_columns(card, 1, 5) {
+            return Err(Refusal::BadStart(n));
+        }
+        if !is_numbered(card) {
+            return Err(Refusal::BadNumber(n));
+        }
     }
-    if is_wrong(free, is_numbered(card)) {
-        return Carded::Fault(Answer::BadNumber(n));
-    }
-    opened(n, kind, hand)
+    opened(n, kind_of(card), hand)
 }
 
-// The first pass, card by card: fine, or the first card's fault.
-pub fn first_pass(text: &[u8]) -> Answer
-    ensures { result ≡ passed (in_form (cards_of text.now)) }
+// The first pass, card by card: the first card's fault, where one has one.
+pub fn first_pass(text: &[u8]) -> Result<(), Refusal>
+    ensures { result ≡ said (in_form (cards_of text.now)) }
 {
-    let mut at = 0;
-    let mut n = 1;
-    let mut hand = 0;
-    while at < text.len() {
-        let end = line_end(text, at);
-        match card_fault(&text[at..end], n, hand) {
-            Carded::Fault(a) => {
-                return a;
-            },
-            Carded::Next(o) => {
-                hand = o;
-            },
-        }
-        at = end + 1;
-        n += 1;
+    let mut cards = Cards::of(text);
+    let mut hand = None;
+    while let Some((card, behind)) = cards.split_first() {
+        hand = card_fault(card, cards.n, hand)?;
+        cards = behind;
     }
-    Answer::Fine
+    Ok(())
 }

@@ -11,7 +11,7 @@ use Rattle.logic.specs.Expressions.{Const, nodes, written, temporal, code}
 use Rattle.logic.specs.Decks.{Deck, total_nodes}
 use Rattle.logic.specs.Meaning.{Claim}
 use Rattle.logic.proofs.Cases.{first}
-use Rattle.decks.specs.declared.Answer.TheVariants.{Outside, Temporal, TooDeep, ManyInitials, ManyEquations, ManyNodes, NoEquation, BadFrame}
+use Rattle.decks.specs.declared.Refusal.TheVariants.{Outside, Temporal, TooDeep, ManyInitials, ManyEquations, ManyNodes, NoEquation, BadFrame}
 use Rattle.decks.specs.Answers.{Outcome, Got, Refused}
 use Rattle.frames.specs.Hex.{hex_digit, pairs, digit_of, byte_of, number_from}
 use Rattle.frames.specs.Written.{code_byte, node_pairs, state_frames, equation_frames, deck_frames}

@@ -15,7 +15,7 @@ use Rattle.sets.specs.Sets.{◌⊆◌, inside}
 use Rattle.sets.proofs.Laws.{inside_true, true_inside, subset_lt}
 use Rattle.logic.specs.Decks.{base}
 use Rattle.logic.specs.Meaning.{Claim, Sized}
-use Rattle.decks.specs.declared.Answer.TheVariants.{BadFrame}
+use Rattle.decks.specs.declared.Refusal.TheVariants.{BadFrame}
 use Rattle.decks.specs.Answers.{Outcome, Got, refuse}
 use Rattle.frames.specs.Hex.{pairs}
 use Rattle.frames.specs.Written.{set_bytes, claim_kind, state_kind, claim_count_kind, frame, state_frames, claim_frames}

@@ -10,7 +10,7 @@ use Rattle.lists.proofs.Laws.{ended-joined, unended-joined}
 use Rattle.sets.specs.Sets.{◌⊆◌}
 use Rattle.logic.specs.Decks.{base}
 use Rattle.logic.specs.Meaning.{Claim, Sized}
-use Rattle.decks.specs.declared.Answer.TheVariants.{TooLong}
+use Rattle.decks.specs.declared.Refusal.TheVariants.{TooLong}
 use Rattle.decks.specs.Answers.{Got, Refused}
 use Rattle.frames.specs.Written.{claim_frames}
 use Rattle.frames.specs.Read.{claim_end, read_claim}

@@ -8,7 +8,7 @@ use lib.ListN.{length}
 use Rattle.lists.specs.Lists.{ended, unended}
 use Rattle.lists.proofs.Laws.{ended-joined, unended-joined}
 use Rattle.logic.specs.Decks.{Deck, Accepted, base}
-use Rattle.decks.specs.declared.Answer.TheVariants.{TooLong}
+use Rattle.decks.specs.declared.Refusal.TheVariants.{TooLong}
 use Rattle.decks.specs.Answers.{Got, Refused}
 use Rattle.frames.specs.Written.{deck_frames}
 use Rattle.frames.specs.Read.{deck_end, read_deck}

@@ -14,7 +14,7 @@ use Rattle.sets.proofs.Laws.{has_true, inside_true, member_lt, subset_lt}
 use Rattle.logic.specs.Expressions.{Const, nodes, written}
 use Rattle.logic.specs.Decks.{Equation, Deck, Accepted, Allowed, Rising, base, total_nodes}
 use Rattle.logic.proofs.Codes.{written_below}
-use Rattle.decks.specs.declared.Answer.TheVariants.{BadFrame}
+use Rattle.decks.specs.declared.Refusal.TheVariants.{BadFrame}
 use Rattle.decks.specs.Answers.{Got, refuse}
 use Rattle.frames.specs.Hex.{pairs}
 use Rattle.frames.specs.Written.{set_bytes, set_kind, init_kind, equation_kind, property_kind, count_kind}

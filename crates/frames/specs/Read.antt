@@ -6,7 +6,7 @@ use Rattle.sets.specs.Sets.{has, inside}
 use Rattle.logic.specs.Expressions.{Op1, Op2, Expr, Const, Var, One, Two, Not, Next, Future, Always, And, Or, Until, Weak, nodes, written, temporal}
 use Rattle.logic.specs.Decks.{Equation, Deck, base, total_nodes}
 use Rattle.logic.specs.Meaning.{Claim}
-use Rattle.decks.specs.declared.Answer.TheVariants.{TooLong, Outside, Temporal, TooDeep, ManyInitials, ManyEquations, ManyNodes, BadFrame}
+use Rattle.decks.specs.declared.Refusal.TheVariants.{TooLong, Outside, Temporal, TooDeep, ManyInitials, ManyEquations, ManyNodes, BadFrame}
 use Rattle.decks.specs.Answers.{Outcome, Got, Refused, refuse, afterwards}
 use Rattle.decks.specs.Readings.{Reading, Whole, Wrong, Deep, onward, walk, complete}
 use Rattle.frames.specs.Hex.{byte_of, number}

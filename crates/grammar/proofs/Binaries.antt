@@ -1,111 +1,98 @@
 -- Binary digits: one more, a character that is none, one too many, and the end.
-use mathlib.Core.Path.{◌≡◌, refl, sym, ap, ap₂, ◌∙◌}
-use mathlib.Core.Bool.{Bool, true, false, not}
-use mathlib.Core.List.{List, [], ◌∷◌}
+use Rattle.std.proofs.Common.{◌≡◌, refl, sym, ap, ap₂, ◌∙◌, Bool, true, false, ◌||◌, List, [], ◌∷◌, ℕ, suc, ◌+◌, ◌-◌, ◌*◌, ◌%◌, ◌^◌, ◌<◌, ◌≤◌, Ok, Err, eqb, arith}
 use mathlib.Core.Option.{none, some}
-use Prim.Native.Nat.{ℕ, suc, ◌+◌, ◌-◌, ◌*◌, ◌^◌, ◌<◌, ◌≤◌}
-use native.Mathlib.Omega.{arith}
-use native.Mathlib.Nat.{sub-zero}
+use mathlib.Core.Logic.{by_cases}
+use native.Mathlib.Nat.{sub-zero, one-mul, zero-mul, pow-suc}
 use native.Mathlib.Numerals.{add-one}
-use borrow.Author.Tests.{not-true, not-false, eqb-true}
-use lib.Dec.{eqb}
-use lib.ListN.{length, get_or}
-use Rattle.cards.specs.Grammar.{digit_value}
+use native.Mathlib.Decide.{ℕ_discrete}
+use borrow.Author.Tests.{eq-eqb, ne_eqb}
+use lib.Dec.{lit<}
+use lib.Pow.{shl_exact, pow_mono}
 use Rattle.cards.specs.Read.{read_binary}
 use Rattle.grammar.specs.declared.Ink.{Ink}
-use Rattle.grammar.specs.Ahead.{ahead, Skips, Inks}
-use Rattle.grammar.specs.Readers.{binary_digit, Binaries}
-use Rattle.grammar.proofs.Ahead.{ahead_end, ahead_ink, ink_cons}
-
-binary_bounds : (c : ℕ) → binary_digit c ≡ true → (48 ≤ c) × (c ≤ 49)
-binary_bounds c e = go (eqb c 48) refl (eqb c 49) refl
-  where
-    go : (a : Bool) → eqb c 48 ≡ a → (b : Bool) → eqb c 49 ≡ b → (48 ≤ c) × (c ≤ 49)
-    go true p b q = let h = eqb-true c 48 p in omega arith
-    go false p true q = let h = eqb-true c 49 q in omega arith
-    go false p false q = let z : ◌≡◌ {A = ℕ} 0 1 = cc in absurd (omega arith)
+use Rattle.grammar.specs.declared.Digits.{Digits}
+use Rattle.grammar.specs.Ahead.{ahead, InkAt}
+use Rattle.grammar.specs.Readers.{NoDigit, DigitTo, Binaries}
 
 -- ---- the definition, by the first character
 
-module _ (i k s : ℕ) where
-  binary_more : (c : ℕ) (cs : List ℕ) → binary_digit c ≡ true → read_binary i (suc k) s (c ∷ cs) ≡ read_binary (suc i) k (s + digit_value c * 2 ^ i) cs
+binary_is : (v : ℕ) → 48 + v ≤ 49 → (eqb (48 + v) 48 || eqb (48 + v) 49) ≡ true
+binary_is v h =
+    by_cases
+    (ℕ_discrete v 0)
+    (λ z. ap (λ (b : Bool). b || eqb (48 + v) 49) (eq-eqb (48 + v) 48 (omega arith)))
+    (λ n. ap₂ (λ (a b : Bool). a || b) (ne_eqb (48 + v) 48 (λ q. n (omega arith))) (eq-eqb (48 + v) 49 (omega arith)))
+
+not_binary : (c : ℕ) → (48 ≤ c → c ≤ 49 → ⊥) → (eqb c 48 || eqb c 49) ≡ false
+not_binary c n = ap₂ (λ (a b : Bool). a || b) (ne_eqb c 48 (λ q. n (omega arith) (omega arith))) (ne_eqb c 49 (λ q. n (omega arith) (omega arith)))
+
+module _ (i s : ℕ) where
+  binary_more : (k v : ℕ) (cs : List ℕ) → 48 + v ≤ 49 → read_binary i (suc k) s ((48 + v) ∷ cs) ≡ read_binary (suc i) k (s + v * 2 ^ i) cs
   unfolding read_binary
-  binary_more c cs e = simp (e, read_binary)
+  binary_more k v cs h =
+      let value : 48 + v - 48 ≡ v = omega arith in
+      (simp (binary_is v h, read_binary)) ∙ ap (λ (x : ℕ). read_binary (suc i) k (s + x * 2 ^ i) cs) value
 
-  binary_none : (cs : List ℕ) → binary_digit (get_or cs 0 0) ≡ false → read_binary i (suc k) s cs ≡ none
+  binary_off : (k : ℕ) (cs : List ℕ) → NoDigit 49 cs → read_binary i (suc k) s cs ≡ none
   unfolding read_binary
-  binary_none [] e = refl
-  binary_none (c ∷ cs) e = simp (e, read_binary)
+  binary_off k [] n = refl
+  binary_off k (c ∷ cs) n = simp (not_binary c n, read_binary)
 
-binary_end : (i s : ℕ) → read_binary i 0 s [] ≡ some s
-unfolding read_binary
-binary_end i s = refl
+  binary_end : read_binary i 0 s [] ≡ some s
+  unfolding read_binary
+  binary_end = refl
 
-binary_further : (i s c : ℕ) (cs : List ℕ) → read_binary i 0 s (c ∷ cs) ≡ none
-unfolding read_binary
-binary_further i s c cs = refl
+  binary_further : (c : ℕ) (cs : List ℕ) → read_binary i 0 s (c ∷ cs) ≡ none
+  unfolding read_binary
+  binary_further c cs = refl
+
+-- ---- the state with one digit more
+
+module _ (s i v : ℕ) (l : i < 64) (h : s < 2 ^ i) (b : 48 + v ≤ 49) where
+  pub shifted : v * 2 ^ i % 2 ^ 64 ≡ v * 2 ^ i
+  shifted = by_cases (ℕ_discrete v 0) (λ z. rw z (omega (arith, zero-mul (2 ^ i)))) (λ n. let one : v ≡ 1 = omega arith in rw one (shl_exact {a = 1} 1 i 64 (lit< tt) (omega arith)))
+
+  pub digit_more : s + v * 2 ^ i < 2 ^ (i + 1)
+  digit_more =
+      let most : v * 2 ^ i ≤ 2 ^ i = by_cases (ℕ_discrete v 0) (λ z. rw z (omega (arith, zero-mul (2 ^ i)))) (λ n. let one : v ≡ 1 = omega arith in rw one (omega (arith, one-mul (2 ^ i)))) in
+      omega (arith, most, pow-suc 2 i, ap (λ (n : ℕ). 2 ^ n) (add-one i))
+
+  pub digit-fits : s + v * 2 ^ i % 2 ^ 64 < 2 ^ 64
+  digit-fits = omega (arith, shifted, digit_more, pow_mono {i = suc i} {j = 64} (omega arith), ap (λ (n : ℕ). 2 ^ n) (add-one i))
 
 -- ---- the reader's steps and answers
 
-module _ (c : ℕ) (b : Bool) where
-  pub binary_small : b ≡ binary_digit c → not b ≡ false → digit_value c ≤ 1
-  binary_small p n = let h = binary_bounds c (sym p ∙ not-false b n) in omega arith
+pub binary_begun : (chars : List ℕ) (at k : ℕ) → read_binary 0 k 0 (ahead chars at) ≡ read_binary 0 (k - 0) 0 (ahead chars at)
+binary_begun chars at k = ap (λ (m : ℕ). read_binary 0 m 0 (ahead chars at)) (sym (sub-zero k))
 
-pub binary_begun : (chars : List ℕ) (at end k : ℕ) → read_binary 0 k 0 (ahead chars at end) ≡ read_binary 0 (k - 0) 0 (ahead chars at end)
-binary_begun chars at end k = ap (λ (m : ℕ). read_binary 0 m 0 (ahead chars at end)) (sym (sub-zero k))
+-- What is left of the digits, from the state so far.
+module _ (chars : List ℕ) (at k next i s : ℕ) (f : at ≤ next) (e : read_binary 0 k 0 (ahead chars at) ≡ read_binary i (k - i) s (ahead chars next)) where
+  module _ (h : i < k) where
+    left : k - i ≡ suc (k - (i + 1))
+    left = omega arith
 
-module _ (chars : List ℕ) (at end k next i s : ℕ) where
-  -- What is left of the digits, from the state so far.
-  abbrev Left : Type 0
-  Left = read_binary 0 k 0 (ahead chars at end) ≡ read_binary i (k - i) s (ahead chars next end)
+    pub binary_on : (d : Digits) → i < 64 → s < 2 ^ i → DigitTo 49 chars next (Ok d) → read_binary 0 k 0 (ahead chars at) ≡ read_binary (i + 1) (k - (i + 1)) (s + d.value * 2 ^ i % 2 ^ 64) (ahead chars d.next)
+    binary_on d l b t =
+        e
+        ∙ ap₂ (λ (m : ℕ) (cs : List ℕ). read_binary i m s cs) left t.2
+        ∙ binary_more i s (k - (i + 1)) d.value (ahead chars d.next) t.1
+        ∙ ap₂ (λ (m v : ℕ). read_binary m (k - (i + 1)) (s + v) (ahead chars d.next)) (sym (add-one i)) (sym (shifted s i d.value l b t.1))
 
-  module _ (c : Ink) (b : Bool) where
-    pub binary_on : (u : ℕ) → end ≤ length chars → i < k → Left → Inks chars next end c → b ≡ binary_digit c.code → not b ≡ false → u ≡ s + digit_value c.code * 2 ^ i → read_binary 0 k 0 (ahead chars at end) ≡ read_binary (i + 1) (k - (i + 1)) u (ahead chars c.next end)
-    binary_on u l h p t q n w =
-        let e : binary_digit c.code ≡ true = sym q ∙ not-false b n in
-        let bounds = binary_bounds c.code e in
-        let more : k - i ≡ suc (k - (i + 1)) = omega arith in
-        let there : c.place < end = t.there (λ z. omega arith) in
-        p
-        ∙ ap₂ (λ (m : ℕ) (cs : List ℕ). read_binary i m s cs) more (ink_cons chars next end c l t there)
-        ∙ binary_more i (k - (i + 1)) s c.code (ahead chars c.next end) e
-        ∙ ap₂ (λ (m v : ℕ). read_binary m (k - (i + 1)) v (ahead chars c.next end)) (sym (add-one i)) (sym w)
+    pub binaries_none : (p : ℕ) → DigitTo 49 chars next (Err p) → Binaries chars at k (Err p)
+    binaries_none p t = (
+      record { from = omega (arith, t.0.from); within = t.0.within; settled = t.0.settled },
+      e ∙ ap (λ (m : ℕ). read_binary i m s (ahead chars next)) left ∙ binary_off i s (k - (i + 1)) (ahead chars next) t.2,
+    )
 
-    pub binaries_none : at ≤ next → i < k → Left → Inks chars next end c → b ≡ binary_digit c.code → not b ≡ true → Binaries chars at end k (record { ok = false; state = 0; next = c.place })
-    binaries_none f h p t q n =
-        let from : next ≤ c.place = t.from in
-        let more : k - i ≡ suc (k - (i + 1)) = omega arith in
-        let e : binary_digit (get_or (ahead chars next end) 0 0) ≡ false = ap binary_digit (sym t.first) ∙ sym q ∙ not-true b n in
-        record {
-          from = omega arith;
-          within = t.within;
-          settled = t.settled;
-          told = sym (p ∙ ap (λ (m : ℕ). read_binary i m s (ahead chars next end)) more ∙ binary_none i (k - (i + 1)) s (ahead chars next end) e);
-        }
+  module _ (h : k ≤ i) where
+    no_more : k - i ≡ 0
+    no_more = omega arith
 
-  module _ (r : ℕ) where
-    pub binaries_further : end ≤ length chars → at ≤ next → i ≤ k → k ≤ i → Left → Skips chars next end r → r < end → Binaries chars at end k (record { ok = false; state = 0; next = r })
-    binaries_further l f h g p t o =
-        let from : next ≤ r = t.from in
-        let e : k - i ≡ 0 = omega arith in
-        record {
-          from = omega arith;
-          within = t.within;
-          settled = t.settled;
-          told =
-              sym
-              (p
-              ∙ ap₂ (λ (m : ℕ) (cs : List ℕ). read_binary i m s cs) e (sym t.same ∙ ahead_ink chars r end o l (t.settled o))
-              ∙ binary_further i s (get_or chars r 0) (ahead chars (r + 1) end));
-        }
+    pub binaries_further : (c : Ink) → InkAt chars next c → Binaries chars at k (Err c.place)
+    binaries_further c t = (
+      record { from = omega (arith, t.from); within = omega (arith, t.within); settled = t.settled },
+      e ∙ ap₂ (λ (m : ℕ) (cs : List ℕ). read_binary i m s cs) no_more t.first ∙ binary_further i s c.code (ahead chars c.next),
+    )
 
-    pub binaries_whole : at ≤ next → i ≤ k → k ≤ i → Left → Skips chars next end r → end ≤ r → Binaries chars at end k (record { ok = true; state = s; next = r })
-    binaries_whole f h g p t o =
-        let from : next ≤ r = t.from in
-        let e : k - i ≡ 0 = omega arith in
-        record {
-          from = omega arith;
-          within = t.within;
-          settled = t.settled;
-          told = sym (p ∙ ap₂ (λ (m : ℕ) (cs : List ℕ). read_binary i m s cs) e (sym t.same ∙ ahead_end chars r end o) ∙ binary_end i s);
-        }
+    pub binaries_whole : ahead chars next ≡ [] → Binaries chars at k (Ok s)
+    binaries_whole n = e ∙ ap₂ (λ (m : ℕ) (cs : List ℕ). read_binary i m s cs) no_more n ∙ binary_end i s

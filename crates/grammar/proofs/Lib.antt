@@ -1,5 +1,4 @@
 pub mod Ahead
-pub mod Characters
 pub mod Numbers
 pub mod Words
 pub mod Binaries

@@ -1,31 +1,27 @@
 -- What stands ahead of a reader in the characters of a statement, and how the reader comes to the next character.
-use Rattle.std.specs.Prelude.{◌≡◌, List, ℕ, ◌+◌, ◌-◌, ◌<◌, ◌≤◌, min, take, drop, get_or}
+use Rattle.std.specs.Prelude.{◌≡◌, List, [], ◌∷◌, ℕ, ◌+◌, ◌<◌, ◌≤◌, length, drop, get_or, Option, Some, None}
 use Rattle.cards.specs.Card.{blank}
 use Rattle.cards.specs.Statement.{inked}
 use Rattle.grammar.specs.declared.Ink.{Ink}
 
--- The characters from place i up to but without the end, blanks left out.
-unfoldable pub ahead : List ℕ → ℕ → ℕ → List ℕ
-ahead chars i end = inked (take (end - i) (drop i chars))
+-- The characters from place i on, blanks left out.
+unfoldable pub ahead : List ℕ → ℕ → List ℕ
+ahead chars i = inked (drop i chars)
 
 -- Place i holds no blank, or is the end.
-abbrev pub Settled : List ℕ → ℕ → ℕ → Type 0
-Settled chars end i = i < end → get_or chars i 0 ≡ blank → ⊥
+abbrev pub Settled : List ℕ → ℕ → Type 0
+Settled chars i = i < length chars → get_or chars i 0 ≡ blank → ⊥
 
--- r is the first place from i on that is no blank, or the end.
-pub record Skips (chars : List ℕ) (i end r : ℕ) : Type 0 where
-  pub from : i ≤ r
-  pub within : r ≤ end
-  pub settled : Settled chars end r
-  pub same : ahead chars r end ≡ ahead chars i end
-
--- r is the first of the characters ahead of place i; its code is 0 where none is.
-pub record Inks (chars : List ℕ) (i end : ℕ) (r : Ink) : Type 0 where
+-- r is the first of the characters ahead of place i.
+pub record InkAt (chars : List ℕ) (i : ℕ) (r : Ink) : Type 0 where
   pub from : i ≤ r.place
-  pub within : r.place ≤ end
-  pub onward : r.next ≡ min (r.place + 1) end
-  pub settled : Settled chars end r.place
-  pub there : (r.code ≡ 0 → ⊥) → r.place < end
-  pub same : ahead chars r.place end ≡ ahead chars i end
-  pub first : r.code ≡ get_or (ahead chars i end) 0 0
-  pub rest : ahead chars r.next end ≡ drop 1 (ahead chars i end)
+  pub within : r.place < length chars
+  pub onward : r.next ≡ r.place + 1
+  pub settled : Settled chars r.place
+  pub same : ahead chars r.place ≡ ahead chars i
+  pub first : ahead chars i ≡ r.code ∷ ahead chars r.next
+
+-- r is the first of the characters ahead of place i, or there is none.
+abbrev pub Inks : List ℕ → ℕ → Option Ink → Type 0
+Inks chars i (Some r) = InkAt chars i r
+Inks chars i None = ahead chars i ≡ []

@@ -1,16 +1,16 @@
 // Readers over the characters of a statement: numbers, words and binary digits. Blanks mean nothing.
-// The first `end` of the characters are the fields of the statement's cards, one after the other.
+// The characters are the fields of the statement's cards, one after the other. Each reader takes all of them and the place where it begins,
+// since the place of a fault is promised: cut off in front, the characters would say it only by how many are left.
 #![tactic(auto)]
 
-ghost use Rattle.std.specs.Prelude.{◌≡◌, ◌+◌, ◌-◌, ◌*◌, ◌^◌, ◌<◌, ◌≤◌, length};
-ghost use Rattle.cards.specs.Card.{is_digit};
-ghost use Rattle.cards.specs.Grammar.{digit_value};
-ghost use Rattle.grammar.specs.Ahead.{Skips, Inks};
-ghost use Rattle.grammar.specs.Readers.{Numbers, Words, binary_digit, Binaries};
+ghost use Rattle.std.specs.Prelude.{◌≡◌, ◌≤◌, length, not, position};
+ghost use Rattle.cards.specs.Card.{is_blank};
+ghost use Rattle.grammar.specs.Ahead.{Inks};
+ghost use Rattle.grammar.specs.Readers.{DigitTo, Numbers, Words, Binaries};
 
 const BLANK: u8 = b' ';
 
-// The next character that is no blank: its code, its place, and the place behind it. At the end the code is 0 and both places are the end.
+// A character that is no blank, its place, and the place behind it.
 #[derive(Clone, Copy)]
 pub struct Ink {
     pub code: u8,
@@ -18,208 +18,96 @@ pub struct Ink {
     pub next: usize,
 }
 
-// A number and the place behind it; or the place of the first fault.
+// A number, and the place behind it.
 #[derive(Clone, Copy)]
 pub struct Digits {
-    pub ok: bool,
     pub value: u16,
     pub next: usize,
 }
 
-// Whether the word stands there, and the place behind it; or the place of the first fault.
-#[derive(Clone, Copy)]
-pub struct Word {
-    pub found: bool,
-    pub next: usize,
-}
-
-// The state that binary digits give, and the place behind them; or the place of the first fault.
-#[derive(Clone, Copy)]
-pub struct Binary {
-    pub ok: bool,
-    pub state: u64,
-    pub next: usize,
-}
-
-// The first place from `at` on that is no blank, or the end.
-pub fn skip(chars: &[u8], at: usize, end: usize) -> usize
-    requires { (at ≤ end) × (end ≤ length chars.now) }
-    ensures { Skips chars.now at end result }
+// Where the first of the characters stands that is no blank, if one is there.
+fn first_ink(chars: &[u8]) -> Option<usize>
+    ensures { result ≡ position (λ c. not (is_blank c)) chars.now }
 {
-    let mut i = at;
-    while i < end {
-        if chars[i] != BLANK {
-            return i;
-        }
-        i += 1;
-    }
-    i
+    chars.iter().position(|c| *c != BLANK)
 }
 
-// The next character that is no blank: mostly the next one.
-pub fn next_ink(chars: &[u8], at: usize, end: usize) -> Ink
-    requires { (at ≤ end) × (end ≤ length chars.now) }
-    ensures { Inks chars.now at end result }
+// The next character that is no blank.
+pub fn next_ink(chars: &[u8], at: usize) -> Option<Ink>
+    requires { at ≤ length chars.now }
+    ensures { Inks chars.now at result }
 {
-    if at < end {
-        let c = chars[at];
-        if c != BLANK {
-            return Ink {
-                code: c,
-                place: at,
-                next: at + 1,
-            };
-        }
-    }
-    let place = skip(chars, at, end);
-    if place < end {
-        return Ink {
-            code: chars[place],
-            place,
-            next: place + 1,
-        };
-    }
-    Ink {
-        code: 0,
+    let place = at + first_ink(&chars[at..])?;
+    Some(Ink {
+        code: chars[place],
         place,
-        next: place,
-    }
+        next: place + 1,
+    })
 }
 
-fn is_digit(c: u8) -> bool
-    ensures { result ≡ is_digit c }
+// The digit that stands next, if it is none behind `last`; or the place of the fault.
+fn digit(chars: &[u8], at: usize, last: u8) -> Result<Digits, usize>
+    requires { at ≤ length chars.now }
+    ensures { DigitTo last chars.now at result }
 {
-    if c < b'0' {
-        return false;
+    match next_ink(chars, at) {
+        Some(c) if (b'0'..=last).contains(&c.code) => Ok(Digits {
+            value: u16::from(c.code - b'0'),
+            next: c.next,
+        }),
+        Some(c) => Err(c.place),
+        None => Err(chars.len()),
     }
-    c <= b'9'
 }
 
-fn digit_value(c: u8) -> u16
-    ensures { result ≡ digit_value c }
+// One or two digits, no leading zero; or the place of the first fault.
+pub fn read_number(chars: &[u8], at: usize) -> Result<Digits, usize>
+    requires { at ≤ length chars.now }
+    ensures { Numbers chars.now at result }
 {
-    if c < b'0' {
-        return 0;
+    let first = digit(chars, at, b'9')?;
+    if first.value == 0 {
+        return Ok(first);
     }
-    (c - b'0') as u16
-}
-
-// One or two digits, no leading zero.
-pub fn read_number(chars: &[u8], at: usize, end: usize) -> Digits
-    requires { (at ≤ end) × (end ≤ length chars.now) }
-    ensures { Numbers chars.now at end result }
-{
-    let first = next_ink(chars, at, end);
-    if !is_digit(first.code) {
-        return Digits {
-            ok: false,
-            value: 0,
-            next: first.place,
-        };
-    }
-    let tens = digit_value(first.code);
-    if tens == 0 {
-        return Digits {
-            ok: true,
-            value: 0,
-            next: first.next,
-        };
-    }
-    let second = next_ink(chars, first.next, end);
-    if !is_digit(second.code) {
-        return Digits {
-            ok: true,
-            value: tens,
-            next: first.next,
-        };
-    }
-    let units = digit_value(second.code);
-    Digits {
-        ok: true,
-        value: 10 * tens + units,
-        next: second.next,
+    match digit(chars, first.next, b'9') {
+        Ok(second) => Ok(Digits {
+            value: 10 * first.value + second.value,
+            next: second.next,
+        }),
+        Err(_) => Ok(first),
     }
 }
 
-// The word, character by character.
-pub fn read_word(chars: &[u8], at: usize, end: usize, word: &[u8]) -> Word
-    requires { (at ≤ end) × (end ≤ length chars.now) }
-    ensures { Words chars.now at end word.now result }
+// The place behind the word, read character by character; or the place of the first fault.
+pub fn read_word(chars: &[u8], at: usize, word: &[u8]) -> Result<usize, usize>
+    requires { at ≤ length chars.now }
+    ensures { Words chars.now at word.now result }
 {
     let mut next = at;
-    let mut i = 0;
-    while i < word.len() {
-        let c = next_ink(chars, next, end);
-        if end <= c.place {
-            return Word {
-                found: false,
-                next: c.place,
-            };
+    for w in word {
+        match next_ink(chars, next) {
+            Some(c) if c.code == *w => next = c.next,
+            Some(c) => return Err(c.place),
+            None => return Err(chars.len()),
         }
-        if c.code != word[i] {
-            return Word {
-                found: false,
-                next: c.place,
-            };
-        }
-        next = c.next;
-        i += 1;
     }
-    Word { found: true, next }
+    Ok(next)
 }
 
-fn is_binary(c: u8) -> bool
-    ensures { result ≡ binary_digit c }
-{
-    if c == b'0' {
-        return true;
-    }
-    c == b'1'
-}
-
-// The state s with the value that the character gives Vi.
-fn with_digit(s: u64, i: usize, c: u8) -> u64
-    requires { (i < 64) × (s < 2 ^ i) × (digit_value c ≤ 1) }
-    ensures { (result ≡ s + digit_value c * 2 ^ i) × (result < 2 ^ (i + 1)) }
-{
-    if c <= b'0' {
-        return s;
-    }
-    s + (1u64 << i)
-}
-
-// Exactly k binary digits and then the end, the first digit for V0.
-pub fn read_binary(chars: &[u8], at: usize, end: usize, k: usize) -> Binary
-    requires { (at ≤ end) × (end ≤ length chars.now) × (k ≤ 64) }
-    ensures { Binaries chars.now at end k result }
+// The state that exactly k binary digits and then the end give, the first digit for V0; or the place of the first fault.
+pub fn read_binary(chars: &[u8], at: usize, k: usize) -> Result<u64, usize>
+    requires { (at ≤ length chars.now) × (k ≤ 64) }
+    ensures { Binaries chars.now at k result }
 {
     let mut state = 0u64;
     let mut next = at;
-    let mut i = 0;
-    while i < k {
-        let c = next_ink(chars, next, end);
-        if !is_binary(c.code) {
-            return Binary {
-                ok: false,
-                state: 0,
-                next: c.place,
-            };
-        }
-        state = with_digit(state, i, c.code);
-        next = c.next;
-        i += 1;
+    for i in 0..k {
+        let d = digit(chars, next, b'1')?;
+        state += u64::from(d.value) << i;
+        next = d.next;
     }
-    let place = skip(chars, next, end);
-    if place < end {
-        return Binary {
-            ok: false,
-            state: 0,
-            next: place,
-        };
+    if let Some(c) = next_ink(chars, next) {
+        return Err(c.place);
     }
-    Binary {
-        ok: true,
-        state,
-        next: place,
-    }
+    Ok(state)
 }

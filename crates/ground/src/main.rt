@@ -3,78 +3,60 @@
 
 use std::io;
 
-fn print_number<R: Print>(rt: &R, label: &str, n: usize) -> io::Result<()> {
-    println!(rt; "{label}{n}")
+fn word(yes: bool) -> &'static str {
+    if yes { "yes" } else { "no" }
 }
 
-fn print_set<R: Print>(rt: &R, label: &str, s: u64) -> io::Result<()> {
-    println!(rt; "{label}{s:016x}")
-}
-
-fn print_answer<R: Print>(rt: &R, label: &str, yes: bool) -> io::Result<()> {
-    let word = if yes { "yes" } else { "no" };
-    println!(rt; "{label}{word}")
-}
-
-// Puts n copies of the node from `at` on, as far as there is room, and answers where they end.
-fn put(nodes: &mut [u16], at: usize, n: usize, node: u16) -> usize {
-    let mut i = at;
-    let mut left = n;
-    while left > 0 {
-        if nodes.len() <= i {
-            return i;
-        }
-        nodes[i] = node;
-        i += 1;
-        left -= 1;
-    }
-    i
+// Puts n copies of the node in front, as far as there is room, and answers the room behind them.
+fn put(room: &mut [u16], n: usize, node: u16) -> &mut [u16] {
+    let n = n.min(room.len());
+    let (front, behind) = room.split_at_mut(n);
+    front.fill(node);
+    behind
 }
 
 // What terms answers of the expression at `at`.
 fn print_expression<R: Print>(rt: &R, nodes: &[u16], at: usize) -> io::Result<()> {
     let end = terms::end_of(nodes, at);
-    print_number(rt, "  ends at ", end)?;
-    if at < nodes.len() {
-        if terms::is_two_place(nodes[at]) {
-            print_number(rt, "  second operand at ", terms::second(nodes, at))?;
-        }
+    println!(rt; "  ends at {end}")?;
+    if at < nodes.len() && terms::is_two_place(nodes[at]) {
+        println!(rt; "  second operand at {}", terms::second(nodes, at))?;
     }
-    print_number(rt, "  levels ", terms::levels_of(nodes, at))?;
-    print_set(rt, "  writes ", terms::written_in(nodes, at, end))?;
-    print_answer(rt, "  temporal: ", terms::has_temporal(nodes, at, end))
+    println!(rt; "  levels {}", terms::levels_of(nodes, at))?;
+    println!(rt; "  writes {:016x}", terms::written_in(nodes, at, end))?;
+    println!(rt; "  temporal: {}", word(terms::has_temporal(nodes, at, end)))
 }
 
 // The sets of the first, the last and no variable.
 fn print_single<R: Print>(rt: &R) -> io::Result<()> {
     let last = sets::variable(63);
-    print_set(rt, "V0 alone ", sets::variable(0))?;
-    print_set(rt, "V63 alone ", last)?;
-    print_number(rt, "  the lowest V", sets::lowest(last))?;
-    print_set(rt, "V64 has no room: ", sets::variable(64))
+    println!(rt; "V0 alone {:016x}", sets::variable(0))?;
+    println!(rt; "V63 alone {last:016x}")?;
+    println!(rt; "  the lowest V{}", sets::lowest(last))?;
+    println!(rt; "V64 has no room: {:016x}", sets::variable(64))
 }
 
 // The set of all variables.
 fn print_all<R: Print>(rt: &R) -> io::Result<()> {
     let last = sets::variable(63);
     let all = sets::union(last, 0x7fff_ffff_ffff_ffff);
-    print_set(rt, "all variables ", all)?;
-    print_number(rt, "  their number ", sets::size(all))?;
-    print_number(rt, "  the lowest V", sets::lowest(all))?;
-    print_answer(rt, "  V63 among them: ", sets::member(all, 63))?;
-    print_answer(rt, "  V64 among them: ", sets::member(all, 64))?;
-    print_answer(rt, "  within V63: ", sets::subset(all, last))?;
-    print_set(rt, "  without V63 ", sets::without(all, last))
+    println!(rt; "all variables {all:016x}")?;
+    println!(rt; "  their number {}", sets::size(all))?;
+    println!(rt; "  the lowest V{}", sets::lowest(all))?;
+    println!(rt; "  V63 among them: {}", word(sets::member(all, 63)))?;
+    println!(rt; "  V64 among them: {}", word(sets::member(all, 64)))?;
+    println!(rt; "  within V63: {}", word(sets::subset(all, last)))?;
+    println!(rt; "  without V63 {:016x}", sets::without(all, last))
 }
 
 // The empty set.
 fn print_nothing<R: Print>(rt: &R) -> io::Result<()> {
     let first = sets::variable(0);
     let nothing = sets::meet(first, sets::variable(63));
-    print_set(rt, "V0 and V63 meet in ", nothing)?;
-    print_number(rt, "  their number ", sets::size(nothing))?;
-    print_number(rt, "  the lowest, none ", sets::lowest(nothing))?;
-    print_answer(rt, "  within V0: ", sets::subset(nothing, first))
+    println!(rt; "V0 and V63 meet in {nothing:016x}")?;
+    println!(rt; "  their number {}", sets::size(nothing))?;
+    println!(rt; "  the lowest, none {}", sets::lowest(nothing))?;
+    println!(rt; "  within V0: {}", word(sets::subset(nothing, first)))
 }
 
 // The property of the worked deck, (G~V1&FV2).
@@ -86,57 +68,40 @@ fn print_worked<R: Print>(rt: &R) -> io::Result<()> {
 
 // 31 times `~` before V63.
 fn print_deep<R: Print>(rt: &R) -> io::Result<()> {
-    let mut nodes = [0u16; 32];
-    let at = put(&mut nodes, 0, 31, terms::NOT);
-    put(&mut nodes, at, 1, 63);
+    let mut nodes = [terms::NOT; 32];
+    nodes[31] = 63;
     println!(rt; "31 times ~ before V63")?;
     print_expression(rt, &nodes, 0)
 }
 
-// Puts four times `&`, each with `~` down to level 32 before V60 as its first operand, and answers where they end.
-fn put_chains(nodes: &mut [u16]) -> usize {
-    let mut at = 0;
-    let mut k = 0;
-    while k < 4 {
-        at = put(nodes, at, 1, terms::AND);
-        at = put(nodes, at, 30 - k, terms::NOT);
-        at = put(nodes, at, 1, 60);
-        k += 1;
-    }
-    at
-}
-
-// 128 nodes: such chains, and (V61UXXXV63) as the last second operand.
+// 128 nodes: four times `&`, each with `~` down to level 32 before V60 as its first operand, and (V61UXXXV63) as the
+// last second operand.
 fn print_property<R: Print>(rt: &R) -> io::Result<()> {
     let mut nodes = [0u16; 128];
-    let mut at = put_chains(&mut nodes);
-    at = put(&mut nodes, at, 1, terms::UNTIL);
-    at = put(&mut nodes, at, 1, 61);
-    at = put(&mut nodes, at, 3, terms::NEXT);
-    put(&mut nodes, at, 1, 63);
+    let mut room = &mut nodes[..];
+    for k in 0..4 {
+        room = put(room, 1, terms::AND);
+        room = put(room, 30 - k, terms::NOT);
+        room = put(room, 1, 60);
+    }
+    room = put(room, 1, terms::UNTIL);
+    room = put(room, 1, 61);
+    room = put(room, 3, terms::NEXT);
+    put(room, 1, 63);
     println!(rt; "a property of 128 nodes")?;
     print_expression(rt, &nodes, 0)
 }
 
-// Puts 64 right sides of 32 nodes, one for each variable, and answers where they end.
-fn put_equations(nodes: &mut [u16]) -> usize {
-    let mut at = 0;
-    let mut v = 0u16;
-    while v < 64 {
-        at = put(nodes, at, 31, terms::NOT);
-        at = put(nodes, at, 1, v);
-        v += 1;
-    }
-    at
-}
-
-// The 2,048 nodes of 64 right sides.
+// The 2,048 nodes of 64 right sides: each of 32 nodes, one for each variable.
 fn print_equations<R: Print>(rt: &R) -> io::Result<()> {
-    let mut nodes = [0u16; 2048];
-    let end = put_equations(&mut nodes);
-    print_number(rt, "nodes of 64 right sides ", end)?;
-    print_set(rt, "  write ", terms::written_in(&nodes, 0, end))?;
-    print_answer(rt, "  temporal: ", terms::has_temporal(&nodes, 0, end))?;
+    let mut nodes = [terms::NOT; 2048];
+    for v in 0..64u16 {
+        nodes[32 * usize::from(v) + 31] = v;
+    }
+    let end = nodes.len();
+    println!(rt; "nodes of 64 right sides {end}")?;
+    println!(rt; "  write {:016x}", terms::written_in(&nodes, 0, end))?;
+    println!(rt; "  temporal: {}", word(terms::has_temporal(&nodes, 0, end)))?;
     println!(rt; "the last of them")?;
     print_expression(rt, &nodes, 2016)?;
     println!(rt; "behind the last")?;

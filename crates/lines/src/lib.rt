@@ -1,125 +1,71 @@
 // Hexadecimal pairs, and the numbers that pairs give.
 #![tactic(auto)]
 
-ghost use Rattle.std.specs.Prelude.{◌≡◌, ◌+◌, ◌-◌, ◌*◌, ◌<◌, ◌≤◌, length, drop};
-ghost use Rattle.frames.specs.Hex.{digit_of, number_from, number};
+ghost use Rattle.std.specs.Prelude.{◌≡◌, ◌*◌, ◌≤◌, [], ◌∷◌, length, drop};
+ghost use Rattle.frames.specs.Hex.{digit_of, byte_of, number};
 ghost use Rattle.frames.specs.Read.{kind_of};
-ghost use Rattle.lines.specs.Numbers.{number_read, both_zero, count_is};
-
-// What stands where no pair is.
-pub const NO_PAIR: u64 = 256;
+ghost use Rattle.lines.specs.Numbers.{digit_read, pair_read, number_read, both_zero, count_is};
 
 // Four characters `0`, each worth 256 times the one before it.
 const ZEROS: u64 = 0x3030_3030;
 
-// The number that pairs give, or that they are not as due.
-#[derive(Clone, Copy)]
-pub enum Number {
-    Good(u64),
-    Bad,
+// The number of a digit.
+fn digit_of(c: u8) -> Option<u8>
+    ensures { result ≡ digit_read (digit_of c) }
+{
+    match c {
+        b'0'..=b'9' => Some(c - b'0'),
+        b'A'..=b'F' => Some(c - b'A' + 10),
+        _ => None,
+    }
 }
 
-// A byte as a word.
-pub fn wide(x: u8) -> u64
-    ensures { (result ≡ x) × (result < 256) }
+// The byte of a pair.
+pub fn pair(high: u8, low: u8) -> Option<u8>
+    ensures { result ≡ pair_read (byte_of high low) }
 {
-    x as u64
-}
-
-// The number of a digit; 16 for any other character.
-fn digit_of(c: u8) -> u64
-    ensures { result ≡ digit_of c }
-{
-    if c < b'0' {
-        return 16;
-    }
-    if c <= b'9' {
-        return wide(c - b'0');
-    }
-    if c < b'A' {
-        return 16;
-    }
-    if c <= b'F' {
-        return wide(c - b'A' + 10);
-    }
-    16
-}
-
-// The byte of the pair that begins at a place of the line, both its characters within the line.
-fn pair(line: &[u8], at: usize) -> u64
-    requires { at + 2 ≤ length line.now }
-    ensures { result ≡ kind_of (drop at line.now) }
-{
-    let high = digit_of(line[at]);
-    if high >= 16 {
-        return NO_PAIR;
-    }
-    let low = digit_of(line[at + 1]);
-    if low >= 16 {
-        return NO_PAIR;
-    }
-    16 * high + low
+    Some(16 * digit_of(high)? + digit_of(low)?)
 }
 
 // The byte of the pair that begins at a place of the line.
-pub fn pair_at(line: &[u8], at: usize) -> u64
-    ensures { result ≡ kind_of (drop at line.now) }
+pub fn pair_at(line: &[u8], at: usize) -> Option<u8>
+    ensures { result ≡ pair_read (kind_of (drop at line.now)) }
 {
-    if line.len() < 2 {
-        return NO_PAIR;
-    }
-    if line.len() - 2 < at {
-        return NO_PAIR;
-    }
-    pair(line, at)
+    let [high, low, ..] = line.get(at..)? else {
+        return None;
+    };
+    pair(*high, *low)
 }
 
-// Whether the two pairs that begin at a place of the line are both zero. All four characters are looked at in one comparison.
-fn zeros(line: &[u8], at: usize) -> bool
-    requires { at + 4 ≤ length line.now }
-    ensures { result ≡ both_zero (drop at line.now) }
+// Whether four characters are all `0`. They are looked at in one comparison.
+fn zeros(a: u8, b: u8, c: u8, d: u8) -> bool
+    ensures { result ≡ both_zero (a ∷ b ∷ c ∷ d ∷ []) }
 {
-    let one = wide(line[at]) + 256 * wide(line[at + 1]);
-    let other = wide(line[at + 2]) + 256 * wide(line[at + 3]);
+    let one = u64::from(a) + 256 * u64::from(b);
+    let other = u64::from(c) + 256 * u64::from(d);
     one + 65536 * other == ZEROS
 }
 
-// How many of the k pairs from a place of the line on are passed over, by twos, as zeros at the front of their number.
-fn zeros_before(line: &[u8], at: usize, k: usize) -> usize
-    requires { (at ≤ 8) × (k ≤ 8) × (length line.now ≡ at + 2 * k) }
-    ensures { (result ≤ k) × (number k (drop at line.now) ≡ number_from (k - result) 0 (drop (at + 2 * result) line.now)) }
-{
-    let mut i = 0;
-    while i + 1 < k {
-        if !zeros(line, at + 2 * i) {
-            return i;
-        }
-        i += 2;
-    }
-    i
-}
-
 // The number of exactly k pairs from a place of the line to its end.
-pub fn number_at(line: &[u8], at: usize, k: usize) -> Number
+pub fn number_at(line: &[u8], at: usize, k: usize) -> Option<u64>
     requires { (at ≤ 8) × (1 ≤ k) × (k ≤ 8) }
     ensures { result ≡ number_read (number k (drop at line.now)) }
 {
     if line.len() != at + 2 * k {
-        return Number::Bad;
+        return None;
+    }
+    let mut digits = &line[at..];
+    while let [a, b, c, d, rest @ ..] = digits {
+        if !zeros(*a, *b, *c, *d) {
+            break;
+        }
+        digits = rest;
     }
     let mut value = 0u64;
-    let mut i = zeros_before(line, at, k);
-    let mut place = at + 2 * i;
-    while i < k {
-        let b = pair(line, place);
-        if b >= NO_PAIR {
-            return Number::Bad;
-        }
-        value = 256 * value + b;
-        place += 2;
-        i += 1;
+    for two in digits.chunks_exact(2) {
+        value = 256 * value + u64::from(pair(two[0], two[1])?);
     }
-    Number::Good(value)
+    Some(value)
 }
 
 // Whether the number of two bytes behind the kind counts the frames before line n.
@@ -127,8 +73,5 @@ pub fn counts(line: &[u8], n: u64) -> bool
     requires { 1 ≤ n }
     ensures { result ≡ count_is n (drop 2 line.now) }
 {
-    let Number::Good(x) = number_at(line, 2, 2) else {
-        return false;
-    };
-    x == n - 1
+    number_at(line, 2, 2) == Some(n - 1)
 }

@@ -1,72 +1,75 @@
 -- What the readers of expressions promise: the card form's own reading of the characters ahead, and the expression's nodes in prefix order.
-use Rattle.std.specs.Prelude.{◌≡◌, ◌⊎◌, List, ℕ, ◌+◌, ◌≤◌, eqb, length, take, set}
-use Rattle.std.proofs.Math.Option.{Option, none, some}
-use Prim.Native.Char.{code as character}
-use Rattle.lists.specs.Lists.{chosen, splice}
+use Rattle.std.specs.Prelude.{◌≡◌, List, ℕ, ◌+◌, ◌≤◌, length, take, Option, Some, None, Result, Ok, Err}
+use Rattle.std.proofs.Math.Option.{Option as Joined, none, some}
+use Rattle.lists.specs.Lists.{splice}
 use Rattle.logic.specs.Expressions.{Expr, Op2, nodes, code, const_node, node1, node2}
 use Rattle.logic.specs.Decks.{base}
-use Rattle.decks.specs.declared.Answer.{Answer}
-use Rattle.decks.specs.declared.Answer.TheVariants.{NotDue, TooDeep}
-use Rattle.decks.specs.Answers.{Outcome, Got, Refused}
+use Rattle.decks.specs.declared.Refusal.{Refusal}
+use Rattle.decks.specs.declared.Refusal.TheVariants.{NotDue, TooDeep}
+use Rattle.decks.specs.Answers.{Got, Refused}
 use Rattle.decks.specs.Readings.{Reading, Whole, Wrong, Deep}
-use Rattle.cards.specs.Grammar.{Sign, Constant, Variable, Before, Bracket, NoSign, past, past_joint, read_expr}
+use Rattle.cards.specs.Grammar.{Sign, Constant, Variable, Before, Bracket, NoSign, past_joint, read_expr}
 use Rattle.cards.specs.Read.{whole_expr}
-use Rattle.grammar.specs.Ahead.{ahead, Settled}
+use Rattle.grammar.specs.Ahead.{ahead}
+use Rattle.grammar.specs.Readers.{Reaches, Faults}
 use Rattle.phrases.specs.declared.Phrase.{Phrase}
+use Rattle.phrases.specs.declared.Joint.{Joint}
+use Rattle.phrases.specs.declared.Stop.{Stop}
+use Rattle.phrases.specs.declared.Stop.TheVariants.{Wrong as WrongAt, Deep as DeepAt}
+use Rattle.phrases.specs.declared.Sign.{Sign as Mark}
+use Rattle.phrases.specs.declared.Sign.TheVariants.{Variable as VariableMark, Constant as ConstantMark, Operator as OperatorMark, Bracket as BracketMark}
 
--- A sign as a number: the node of a constant or of an operator before its operand, or a mark.
-abbrev pub mark_of : Sign → ℕ
-mark_of (Constant b) = const_node b
-mark_of Variable = 1
-mark_of (Before o) = node1 o
-mark_of Bracket = 266
-mark_of NoSign = 0
+-- What a character begins, with the node of a constant or of an operator before its operand.
+abbrev pub marked : Sign → Option Mark
+marked (Constant b) = Some (ConstantMark (const_node b))
+marked Variable = Some VariableMark
+marked (Before o) = Some (OperatorMark (node1 o))
+marked Bracket = Some BracketMark
+marked NoSign = None
 
--- An operator between operands as a number: its node, or the mark for none.
-abbrev pub joint_mark : Option Op2 → ℕ
-joint_mark none = 0
-joint_mark (some o) = node2 o
+-- The node of an operator between operands.
+abbrev pub joint_node : Joined Op2 → Option ℕ
+joint_node none = None
+joint_node (some o) = Some (node2 o)
 
--- r and the array after it say what the reading says: how it stopped, what stands from there on, and the nodes from the place `used` on.
-abbrev pub Tells : List ℕ → ℕ → Reading → List ℕ → ℕ → Phrase → List ℕ → Type 0
-Tells chars end (Whole e rest) out used r after = (r.stop ≡ 0) × (ahead chars r.next end ≡ rest) × (r.used ≡ used + nodes e) × (after ≡ splice used (code e) out)
-Tells chars end (Wrong rest) out used r after = (r.stop ≡ 1) × (ahead chars r.next end ≡ rest) × Settled chars end r.next
-Tells chars end (Deep rest) out used r after = (r.stop ≡ 2) × (ahead chars r.next end ≡ rest) × Settled chars end r.next
+-- An operator stands ahead of place i, and what stands behind it; or what is there makes any reading that needs one wrong.
+abbrev pub Joins : List ℕ → ℕ → Result Joint ℕ → Type 0
+Joins chars i (Ok j) = Reaches chars i j.next × ((o : Op2) × (j.node ≡ node2 o) × ((f : Op2 → List ℕ → Reading) → past_joint (ahead chars i) f ≡ f o (ahead chars j.next)))
+Joins chars i (Err p) = Faults chars i p × ((f : Op2 → List ℕ → Reading) → past_joint (ahead chars i) f ≡ Wrong (ahead chars p))
 
--- Beside what is told: the bounds that hold however the reading stopped. Never more nodes are added behind place `begun` than characters are read.
-pub record Reads (chars : List ℕ) (i end : ℕ) (reading : Reading) (out : List ℕ) (used begun : ℕ) (r : Phrase) (after : List ℕ) : Type 0 where
+-- The place at which a reading stopped.
+abbrev pub place_of : Stop → ℕ
+place_of (WrongAt p) = p
+place_of (DeepAt p) = p
+
+-- The reading that stopped there.
+abbrev pub stopped : List ℕ → Stop → Reading
+stopped chars (WrongAt p) = Wrong (ahead chars p)
+stopped chars (DeepAt p) = Deep (ahead chars p)
+
+-- The reading is of an expression: its nodes stand in the array from the place `used` on. Never more nodes are added behind place `begun` than characters are read.
+pub record ReadsTo (chars : List ℕ) (i : ℕ) (reading : Reading) (out : List ℕ) (used begun : ℕ) (r : Phrase) (after : List ℕ) : Type 0 where
+  pub its : Expr
   pub from : i ≤ r.next
-  pub within : r.next ≤ end
-  pub grows : used ≤ r.used
+  pub within : r.next ≤ length chars
   pub few : r.used + i ≤ begun + r.next
   pub long : length after ≡ length out
   pub before : take used after ≡ take used out
-  pub told : Tells chars end reading out used r after
+  pub told : reading ≡ Whole its (ahead chars r.next)
+  pub many : r.used ≡ used + nodes its
+  pub stored : after ≡ splice used (code its) out
 
--- What r and the array after it make of a first operand: its fault, or what an operator behind it or another character there makes of the reading.
-pub record Joins (chars : List ℕ) (end : ℕ) (first : Phrase) (out : List ℕ) (used : ℕ) (r : Phrase) (after : List ℕ) : Type 0 where
-  pub from : first.next ≤ r.next
-  pub within : r.next ≤ end
-  pub same : r.used ≡ first.used
+-- The reading stopped: the array before the place `used` is as it was.
+pub record StopsAt (chars : List ℕ) (i : ℕ) (reading : Reading) (out : List ℕ) (used : ℕ) (s : Stop) (after : List ℕ) : Type 0 where
+  pub fault : Faults chars i (place_of s)
   pub long : length after ≡ length out
   pub before : take used after ≡ take used out
-  pub fault : (first.stop ≡ 0 → ⊥) → (r ≡ first) × (after ≡ out)
-  pub told : first.stop ≡ 0
-      → ((o : Op2)
-      × (r.stop ≡ 0)
-      × (after ≡ set out used (node2 o))
-      × ((f : Op2 → List ℕ → Reading) → past_joint (ahead chars first.next end) f ≡ f o (ahead chars r.next end)))
-      ⊎ ((r.stop ≡ 1) × Settled chars end r.next × ((f : Op2 → List ℕ → Reading) → past_joint (ahead chars first.next end) f ≡ Wrong (ahead chars r.next end)))
+  pub told : reading ≡ stopped chars s
 
--- What r makes of a second operand: its fault, or what `)` behind it or another character there makes of the reading.
-pub record Closes (chars : List ℕ) (end : ℕ) (second r : Phrase) : Type 0 where
-  pub from : second.next ≤ r.next
-  pub within : r.next ≤ end
-  pub used : r.used ≡ second.used
-  pub fault : (second.stop ≡ 0 → ⊥) → r ≡ second
-  pub told : second.stop ≡ 0
-      → ((r.stop ≡ 0) × ((f : List ℕ → Reading) → past (character ")") (ahead chars second.next end) f ≡ f (ahead chars r.next end)))
-      ⊎ ((r.stop ≡ 1) × Settled chars end r.next × ((f : List ℕ → Reading) → past (character ")") (ahead chars second.next end) f ≡ Wrong (ahead chars r.next end)))
+-- r and the array after it say what the reading says.
+abbrev pub Reads : List ℕ → ℕ → Reading → List ℕ → ℕ → ℕ → Result Phrase Stop → List ℕ → Type 0
+Reads chars i reading out used begun (Ok r) after = ReadsTo chars i reading out used begun r after
+Reads chars i reading out used begun (Err s) after = StopsAt chars i reading out used s after
 
 -- What stands from where a reading stopped on.
 abbrev pub rest_of : Reading → List ℕ
@@ -74,21 +77,28 @@ rest_of (Whole e rest) = rest
 rest_of (Wrong rest) = rest
 rest_of (Deep rest) = rest
 
--- The answer for a statement of card n that the number of a stop stands for.
-abbrev pub refusal_of : ℕ → ℕ → Answer
-refusal_of n stop = chosen (eqb stop 1) (NotDue n) (TooDeep n)
+-- The answer for a statement of card n whose expression stopped so.
+abbrev pub refusal_of : ℕ → Stop → Refusal
+refusal_of n (WrongAt p) = NotDue n
+refusal_of n (DeepAt p) = TooDeep n
+
+-- An expression fills the rest of the statement from place i on, of whichever card the statement is: its nodes stand first in the array.
+pub record Filled (chars : List ℕ) (i : ℕ) (out : List ℕ) (used : ℕ) (after : List ℕ) : Type 0 where
+  pub its : Expr
+  pub few : used + i ≤ length chars
+  pub long : length after ≡ length out
+  pub told : (n : ℕ) → whole_expr n (ahead chars i) ≡ Got its
+  pub many : used ≡ nodes its
+  pub stored : after ≡ splice 0 (code its) out
+
+-- No expression fills it.
+pub record Unfilled (chars : List ℕ) (i : ℕ) (out : List ℕ) (s : Stop) (after : List ℕ) : Type 0 where
+  pub fault : Faults chars i (place_of s)
+  pub long : length after ≡ length out
+  pub rest : ahead chars (place_of s) ≡ rest_of (read_expr base.levels (ahead chars i))
+  pub told : (n : ℕ) → whole_expr n (ahead chars i) ≡ Refused (refusal_of n s)
 
 -- r and the array after it say what `whole_expr` says.
-abbrev pub TellsWhole : ℕ → Outcome Expr → List ℕ → Phrase → List ℕ → Type 0
-TellsWhole n (Got e) out r after = (r.stop ≡ 0) × (r.used ≡ nodes e) × (after ≡ splice 0 (code e) out)
-TellsWhole n (Refused a) out r after = ((r.stop ≡ 0 → ⊥) × (refusal_of n r.stop ≡ a))
-
--- The expression that fills the rest of the statement from place i on, of whichever card the statement is.
-pub record Fills (chars : List ℕ) (i end : ℕ) (out : List ℕ) (r : Phrase) (after : List ℕ) : Type 0 where
-  pub from : i ≤ r.next
-  pub within : r.next ≤ end
-  pub few : r.used + i ≤ r.next
-  pub long : length after ≡ length out
-  pub settled : Settled chars end r.next
-  pub rest : ahead chars r.next end ≡ rest_of (read_expr base.levels (ahead chars i end))
-  pub told : (n : ℕ) → TellsWhole n (whole_expr n (ahead chars i end)) out r after
+abbrev pub Fills : List ℕ → ℕ → List ℕ → Result ℕ Stop → List ℕ → Type 0
+Fills chars i out (Ok used) after = Filled chars i out used after
+Fills chars i out (Err s) after = Unfilled chars i out s after

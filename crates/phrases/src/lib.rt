@@ -1,88 +1,73 @@
-// Readers of expressions over the characters of a statement; the nodes go in prefix order into a lent array.
+// Readers of expressions over the characters of a statement; the nodes go in prefix order into a lent array, from the place `used` on:
+// an operator's place is kept while its operands are read behind it, so the array is not cut there.
 #![tactic(auto)]
 
-ghost use Rattle.std.specs.Prelude.{◌≡◌, suc, ◌+◌, ◌-◌, ◌*◌, ◌/◌, ◌%◌, ◌<◌, ◌≤◌, ◌∷◌, length, set};
-ghost use Rattle.cards.specs.Grammar.{sign_of, joint_of, read_number, variable, read_expr};
+ghost use Rattle.std.specs.Prelude.{◌≡◌, [], ◌+◌, ◌-◌, ◌/◌, ◌<◌, ◌≤◌, length};
+ghost use Rattle.logic.specs.Expressions.{Op1, node1};
+ghost use Rattle.cards.specs.Grammar.{Variable, Before, Bracket, sign_of, joint_of, begins, read_expr};
 ghost use Rattle.grammar.specs.Ahead.{ahead};
-ghost use Rattle.phrases.specs.Phrases.{mark_of, joint_mark, Reads, Joins, Closes, Fills};
+ghost use Rattle.phrases.specs.Phrases.{marked, joint_node, Joins, Reads, Fills};
 
-// How a reading stopped: a whole expression, a character that cannot go on (8), or one that begins an expression at level 33 (11).
-pub const WHOLE: usize = 0;
+// Why no whole expression was read, and at which place: a character that cannot go on (8), or one that begins an expression at level 33 (11).
+#[derive(Clone, Copy, PartialEq, Eq)]
+pub enum Stop {
+    Wrong(usize),
+    Deep(usize),
+}
 
-pub const WRONG: usize = 1;
-
-pub const DEEP: usize = 2;
-
-// Marks of characters that stand for no node.
-const NO_SIGN: u16 = 0;
-
-const VARIABLE: u16 = 1;
-
-const BRACKET: u16 = 266;
-
-// How a reading stopped, at which place, and how many places of the array are used then.
+// The place behind an expression that was read, and how many places of the array are used then.
 #[derive(Clone, Copy)]
 pub struct Phrase {
-    pub stop: usize,
     pub next: usize,
     pub used: usize,
 }
 
-// What the character begins: the node of a constant or of one of `~ X F G`, or one of the marks above.
-fn sign_of(c: u8) -> u16
-    ensures { (result ≡ mark_of (sign_of c)) × (result ≤ 266) }
-{
-    if c == b'0' {
-        return terms::ZERO;
-    }
-    if c == b'1' {
-        return terms::ONE;
-    }
-    if c == b'V' {
-        return VARIABLE;
-    }
-    if c == b'~' {
-        return terms::NOT;
-    }
-    if c == b'X' {
-        return terms::NEXT;
-    }
-    if c == b'F' {
-        return terms::FUTURE;
-    }
-    if c == b'G' {
-        return terms::ALWAYS;
-    }
-    if c == b'(' {
-        return BRACKET;
-    }
-    NO_SIGN
+// What a character begins: a variable, a constant or one of `~ X F G`, each with its node, or an expression in brackets.
+#[derive(Clone, Copy)]
+enum Sign {
+    Variable,
+    Constant(u16),
+    Operator(u16),
+    Bracket,
 }
 
-// The node of one of `& + U W`, or the mark of any other character.
-fn joint_of(c: u8) -> u16
-    ensures { result ≡ joint_mark (joint_of c) }
-{
-    if c == b'&' {
-        return terms::AND;
-    }
-    if c == b'+' {
-        return terms::OR;
-    }
-    if c == b'U' {
-        return terms::UNTIL;
-    }
-    if c == b'W' {
-        return terms::WEAK;
-    }
-    NO_SIGN
+// The node of an operator between two operands, and the place behind its sign.
+#[derive(Clone, Copy)]
+struct Joint {
+    node: u16,
+    next: usize,
 }
 
-fn put(out: &mut [u16], i: usize, node: u16)
-    requires { i < length out.old }
-    ensures { out.new ≡ set out.old i node }
+// What the character begins, if it begins an expression.
+#[tactic(auto, unfolding(cards::specs::Grammar::sign_of))]
+fn sign_of(c: u8) -> Option<Sign>
+    ensures { result ≡ marked (sign_of c) }
 {
-    out[i] = node;
+    match c {
+        b'0' => Some(Sign::Constant(terms::ZERO)),
+        b'1' => Some(Sign::Constant(terms::ONE)),
+        b'V' => Some(Sign::Variable),
+        b'~' => Some(Sign::Operator(terms::NOT)),
+        b'X' => Some(Sign::Operator(terms::NEXT)),
+        b'F' => Some(Sign::Operator(terms::FUTURE)),
+        b'G' => Some(Sign::Operator(terms::ALWAYS)),
+        b'(' => Some(Sign::Bracket),
+        _ => None,
+    }
+}
+
+// The node of one of `& + U W`.
+#[tactic(auto, unfolding(cards::specs::Grammar::joint_of))]
+fn joint_of(c: u8) -> Option<u16>
+    ensures { result ≡ joint_node (joint_of c) }
+{
+    match c {
+        b'&' => Some(terms::AND),
+        b'+' => Some(terms::OR),
+        b'U' => Some(terms::UNTIL),
+        b'W' => Some(terms::WEAK),
+        _ => None,
+    }
 }
 
 // The expression that stands first. The levels left count two each: one for the step from an expression to its operands,
@@ -91,184 +76,109 @@ fn put(out: &mut [u16], i: usize, node: u16)
 fn expression(
     chars: &[u8],
     at: usize,
-    end: usize,
     left: usize,
     out: &mut [u16],
     used: usize,
-) -> Phrase
-    requires { (at ≤ end) × (end ≤ length chars.now) × (left % 2 ≡ 0) × (used + (end - at) ≤ length out.old) }
-    ensures { Reads chars.now at end (read_expr (left / 2) (ahead chars.now at end)) out.old used used result out.new }
+) -> Result<Phrase, Stop>
+    requires { (at ≤ length chars.now) × (used + (length chars.now - at) ≤ length out.old) }
+    ensures { Reads chars.now at (read_expr (left / 2) (ahead chars.now at)) out.old used used result out.new }
 {
-    let c = grammar::next_ink(chars, at, end);
-    if end <= c.place {
-        return Phrase {
-            stop: WRONG,
-            next: c.place,
-            used,
-        };
-    }
-    let sign = sign_of(c.code);
-    if sign == NO_SIGN {
-        return Phrase {
-            stop: WRONG,
-            next: c.place,
-            used,
-        };
-    }
+    let Some(c) = grammar::next_ink(chars, at) else {
+        return Err(Stop::Wrong(chars.len()));
+    };
+    let Some(sign) = sign_of(c.code) else {
+        return Err(Stop::Wrong(c.place));
+    };
     if left < 2 {
-        return Phrase {
-            stop: DEEP,
-            next: c.place,
-            used,
-        };
+        return Err(Stop::Deep(c.place));
     }
-    if sign == VARIABLE {
-        return variable(chars, c.next, end, out, used);
+    match sign {
+        Sign::Variable => variable(chars, c.next, out, used),
+        Sign::Constant(node) => {
+            out[used] = node;
+            Ok(Phrase {
+                next: c.next,
+                used: used + 1,
+            })
+        }
+        Sign::Operator(node) => operand(chars, c.next, left - 1, node, out, used),
+        Sign::Bracket => pair(chars, c.next, left - 1, out, used),
     }
-    if sign < terms::NOT {
-        put(out, used, sign);
-        return Phrase {
-            stop: WHOLE,
-            next: c.next,
-            used: used + 1,
-        };
-    }
-    if sign != BRACKET {
-        return operand(chars, c.next, end, left - 1, c.code, sign, out, used);
-    }
-    pair(chars, c.next, end, left - 1, out, used)
 }
 
 // The number of a variable behind its `V`.
-fn variable(chars: &[u8], at: usize, end: usize, out: &mut [u16], used: usize) -> Phrase
-    requires { (at ≤ end) × (end ≤ length chars.now) × (used < length out.old) }
-    ensures { Reads chars.now at end (variable (read_number (ahead chars.now at end))) out.old used (used + 1) result out.new }
+fn variable(chars: &[u8], at: usize, out: &mut [u16], used: usize) -> Result<Phrase, Stop>
+    requires { (at ≤ length chars.now) × (used < length out.old) }
+    ensures { Reads chars.now at (begins (read_expr 0) [] Variable (ahead chars.now at)) out.old used (used + 1) result out.new }
 {
-    let v = grammar::read_number(chars, at, end);
-    if v.ok {
-        put(out, used, v.value);
-        return Phrase {
-            stop: WHOLE,
-            next: v.next,
-            used: used + 1,
-        };
-    }
-    Phrase {
-        stop: WRONG,
+    let v = grammar::read_number(chars, at).map_err(Stop::Wrong)?;
+    out[used] = v.value;
+    Ok(Phrase {
         next: v.next,
-        used,
-    }
+        used: used + 1,
+    })
 }
 
-// Behind the sign c of one of `~ X F G`: its operand, a whole expression. The operator's node goes before it, to the place kept for it.
+// Behind one of `~ X F G`: its operand, a whole expression. The operator's node goes before it, to the place kept for it.
 #[cycle(expression_operand_pair)]
 fn operand(
     chars: &[u8],
     at: usize,
-    end: usize,
     left: usize,
-    c: u8,
     node: u16,
     out: &mut [u16],
     used: usize,
-) -> Phrase
-    requires { (at ≤ end) × (end ≤ length chars.now) × (left % 2 ≡ 1) × (node ≡ mark_of (sign_of c)) × (258 ≤ node) × (node < 266) × (used + 1 + (end - at) ≤ length out.old) }
-    ensures { Reads chars.now at end (read_expr (suc (left / 2)) (c ∷ ahead chars.now at end)) out.old used (used + 1) result out.new }
+) -> Result<Phrase, Stop>
+    requires { (at ≤ length chars.now) × (1 ≤ left) × (used + 1 + (length chars.now - at) ≤ length out.old) }
+    ensures { (o : Op1) → node ≡ node1 o → Reads chars.now at (begins (read_expr ((left - 1) / 2)) [] (Before o) (ahead chars.now at)) out.old used (used + 1) result out.new }
 {
-    let first = expression(chars, at, end, left - 1, out, used + 1);
-    if first.stop != WHOLE {
-        return first;
-    }
-    put(out, used, node);
-    first
+    let first = expression(chars, at, left - 1, out, used + 1)?;
+    out[used] = node;
+    Ok(first)
 }
 
 // Behind `(`: two operands, each a whole expression, with their operator between them, and `)`. The operator's node goes before them.
 #[cycle(expression_operand_pair)]
-fn pair(chars: &[u8], at: usize, end: usize, left: usize, out: &mut [u16], used: usize) -> Phrase
-    requires { (at ≤ end) × (end ≤ length chars.now) × (left % 2 ≡ 1) × (used + 1 + (end - at) ≤ length out.old) }
-    ensures { Reads chars.now at end (read_expr (suc (left / 2)) (40 ∷ ahead chars.now at end)) out.old used (used + 1) result out.new }
+fn pair(chars: &[u8], at: usize, left: usize, out: &mut [u16], used: usize) -> Result<Phrase, Stop>
+    requires { (at ≤ length chars.now) × (1 ≤ left) × (used + 1 + (length chars.now - at) ≤ length out.old) }
+    ensures { Reads chars.now at (begins (read_expr ((left - 1) / 2)) [] Bracket (ahead chars.now at)) out.old used (used + 1) result out.new }
 {
-    let first = expression(chars, at, end, left - 1, out, used + 1);
-    let middle = joining(chars, end, first, out, used);
-    if middle.stop != WHOLE {
-        return middle;
-    }
-    let second = expression(chars, middle.next, end, left - 1, out, middle.used);
-    closing(chars, end, second)
-}
-
-// Behind the first operand, where that is whole: one of `& + U W`. Its node is stored at the place kept for it.
-fn joining(chars: &[u8], end: usize, first: Phrase, out: &mut [u16], used: usize) -> Phrase
-    requires { (first.next ≤ end) × (end ≤ length chars.now) × (used < length out.old) }
-    ensures { Joins chars.now end first out.old used result out.new }
-{
-    if first.stop != WHOLE {
-        return first;
-    }
-    let c = grammar::next_ink(chars, first.next, end);
-    let joint = joint_of(c.code);
-    if joint == NO_SIGN {
-        return Phrase {
-            stop: WRONG,
-            next: c.place,
-            used: first.used,
-        };
-    }
-    put(out, used, joint);
-    Phrase {
-        stop: WHOLE,
-        next: c.next,
-        used: first.used,
-    }
-}
-
-// Behind the second operand, where that is whole: `)`.
-fn closing(chars: &[u8], end: usize, second: Phrase) -> Phrase
-    requires { (second.next ≤ end) × (end ≤ length chars.now) }
-    ensures { Closes chars.now end second result }
-{
-    if second.stop != WHOLE {
-        return second;
-    }
-    let last = grammar::next_ink(chars, second.next, end);
-    if last.code != b')' {
-        return Phrase {
-            stop: WRONG,
-            next: last.place,
-            used: second.used,
-        };
-    }
-    Phrase {
-        stop: WHOLE,
-        next: last.next,
+    let first = expression(chars, at, left - 1, out, used + 1)?;
+    let joint = joining(chars, first.next).map_err(Stop::Wrong)?;
+    out[used] = joint.node;
+    let second = expression(chars, joint.next, left - 1, out, first.used)?;
+    let next = grammar::read_word(chars, second.next, b")").map_err(Stop::Wrong)?;
+    Ok(Phrase {
+        next,
         used: second.used,
+    })
+}
+
+// Behind a first operand: one of `& + U W`; or the place of the fault.
+fn joining(chars: &[u8], at: usize) -> Result<Joint, usize>
+    requires { at ≤ length chars.now }
+    ensures { Joins chars.now at result }
+{
+    let Some(c) = grammar::next_ink(chars, at) else {
+        return Err(chars.len());
+    };
+    match joint_of(c.code) {
+        Some(node) => Ok(Joint { node, next: c.next }),
+        None => Err(c.place),
     }
 }
 
 // Two for each of the levels that an expression may have.
 const LEFT: usize = 2 * decks::LEVELS;
 
-// The expression that fills the rest of the statement.
-pub fn whole_expression(chars: &[u8], at: usize, end: usize, out: &mut [u16]) -> Phrase
-    requires { (at ≤ end) × (end ≤ length chars.now) × (end - at ≤ length out.old) }
-    ensures { Fills chars.now at end out.old result out.new }
+// The number of nodes of the expression that fills the rest of the statement.
+pub fn whole_expression(chars: &[u8], at: usize, out: &mut [u16]) -> Result<usize, Stop>
+    requires { (at ≤ length chars.now) × (length chars.now - at ≤ length out.old) }
+    ensures { Fills chars.now at out.old result out.new }
 {
-    let e = expression(chars, at, end, LEFT, out, 0);
-    if e.stop != WHOLE {
-        return e;
+    let e = expression(chars, at, LEFT, out, 0)?;
+    if let Some(c) = grammar::next_ink(chars, e.next) {
+        return Err(Stop::Wrong(c.place));
     }
-    let place = grammar::skip(chars, e.next, end);
-    if place < end {
-        return Phrase {
-            stop: WRONG,
-            next: place,
-            used: e.used,
-        };
-    }
-    Phrase {
-        stop: WHOLE,
-        next: place,
-        used: e.used,
-    }
+    Ok(e.used)
 }

@@ -14,12 +14,15 @@ use Rattle.lists.specs.Lists.{splice}
 use Rattle.lists.proofs.Laws.{each_get_or, splice_nothing, splice-splice, splice-rest, part-rest}
 use Rattle.sets.specs.Sets.{◌⊆◌}
 use Rattle.sets.proofs.Laws.{subset_trans}
-use Rattle.logic.specs.Expressions.{Expr, Const, written}
+use Rattle.logic.specs.Expressions.{Expr, Const, code, written}
 use Rattle.logic.specs.Decks.{Deck, Accepted, base}
 use Rattle.logic.specs.Pieces.{split, piece, pieces}
 use Rattle.logic.proofs.Pieces.{PartOf, split_parts, piece-accepted}
 use Rattle.frames.specs.Written.{deck_frames}
 use Rattle.frames.proofs.SizeLaws.{deck-within-text}
+use Rattle.decks.specs.declared.Deck.{Deck as Stored}
+use Rattle.conjuncts.specs.declared.Span.{Span}
+use Rattle.conjuncts.specs.Conjuncts.{no_span}
 use Rattle.conjuncts.proofs.Laws.{BoundsAt, bounded_at, split-most}
 use Rattle.pieces.specs.Laid.{Placed, Bound}
 use Rattle.pieces.specs.Reduced.{all_frames, piece_bytes}
@@ -97,118 +100,106 @@ module _ (D : Deck) (a : Accepted base D) where
   pub count-few : length (split D.property) ≤ 64
   count-few = omega (arith, split-most D.property, a.property-nodes)
 
--- ---- in lent arrays
+-- ---- in memory
 
-module _ (deps inits : List ℕ) (initials : ℕ) (lefts ends nodes : List ℕ) (equations : ℕ) (property bounds : List ℕ) (count : ℕ) where
+module _ (deck : Stored) (deps : List ℕ) (spans : List Span) where
   abbrev pub Here : Deck → Type 0
-  Here D = Bound D deps inits initials lefts ends nodes equations property bounds count
+  Here D = Bound D deck deps spans
 
-  abbrev pub Conjunct : Deck → Expr → ℕ → ℕ → Type 0
-  Conjunct D e from to = Placed D e deps inits initials lefts ends nodes equations property from to
-
-  module _ (i : ℕ) (h : i < count) where
-    at : (D : Deck) → Here D → BoundsAt property bounds (conjunct D i) i
-    at D b = bounded_at property bounds (split D.property) i b.conjuncts (omega (arith, b.count_is))
-
-    pub first_place : (D : Deck) → Here D → 2 * i < length bounds
-    first_place D b = omega (arith, (at D b).there)
-
-    pub second_place : (D : Deck) → Here D → 2 * i + 1 < length bounds
-    second_place D b = (at D b).there
-
-    pub twice_fits : (D : Deck) → Here D → Fits w64 (2 * i)
-    twice_fits D b = omega (arith, b.count_is, count-few D b.laid.accepted)
-
-    pub twice_more_fits : (D : Deck) → Here D → Fits w64 (2 * i + 1)
-    twice_more_fits D b = omega (arith, b.count_is, count-few D b.laid.accepted)
-
-    module _ (from to : ℕ) (f : from ≡ get_or bounds (2 * i) 0) (t : to ≡ get_or bounds (2 * i + 1) 0) where
-      placed : (D : Deck) → Here D → Conjunct D (conjunct D i) from to
-      placed D b =
-          record {
-            laid = b.laid;
-            inside = conjunct_inside D b.laid.accepted i (omega (arith, b.count_is));
-            from_to = omega (arith, f, t, (at D b).in_order);
-            to_in = omega (arith, t, (at D b).within);
-            is_code = ap₂ (λ (x y : ℕ). take (y - x) (drop x property)) f t ∙ (at D b).bounded;
-          }
-
-      pub placed-some : (D : Deck) → Here D → (E : Deck) × (e : Expr) × Conjunct E e from to
-      placed-some D b = (D, conjunct D i, placed D b)
-
-      -- One piece counted.
-      module _ (n r : ℕ) (g : (D : Deck) (e : Expr) → Conjunct D e from to → r ≡ length (deck_frames (piece D e))) (s : (D : Deck) → Here D → n ≡ length (first_bytes D i)) where
-        pub size_fits : (D : Deck) → Here D → Fits w64 (n + r)
-        size_fits D b =
-            let a : Accepted base D = b.laid.accepted in
-            let few : i < length (split D.property) = omega (arith, b.count_is) in
-            omega (arith, s D b, g D (conjunct D i) (placed D b), first-within D a i (omega (arith, few)), piece-within D a i few, count-few D a)
-
-        pub size_on : (D : Deck) → Here D → n + r ≡ length (first_bytes D (i + 1))
-        size_on D b =
-            omega (
-              arith,
-              s D b,
-              g D (conjunct D i) (placed D b),
-              ap length (one_more D i (omega (arith, b.count_is))),
-              length-append (first_bytes D i) (deck_frames (piece D (conjunct D i))),
-            )
-
-  pub size_start : (D : Deck) → Here D → 0 ≡ length (first_bytes D 0)
-  size_start D b = ap length (sym (none_yet D))
-
-  pub size-done : (i n : ℕ) → count ≤ i → ((D : Deck) → Here D → n ≡ length (first_bytes D i)) → (D : Deck) → Here D → n ≡ length (piece_bytes D)
-  size-done i n h s D b = s D b ∙ ap length (all_of_them D i (omega (arith, b.count_is)))
+  -- The bytes of the first i pieces are counted.
+  abbrev pub SizeTo : ℕ → ℕ → Type 0
+  SizeTo i n = (D : Deck) → Here D → n ≡ length (first_bytes D i)
 
   -- The buffer holds the first i pieces, in this many bytes.
   abbrev pub Filling : List ℕ → ℕ → ℕ → List ℕ → Type 0
   Filling out₀ i used out = (D : Deck) → Here D → length (piece_bytes D) ≤ length out₀ → (used ≡ length (first_bytes D i)) × (out ≡ splice 0 (first_bytes D i) out₀)
 
+  pub size_start : SizeTo 0 0
+  size_start D b = ap length (sym (none_yet D))
+
   pub filling_start : (out : List ℕ) → Filling out 0 0 out
   filling_start out D b h = (size_start D b, sym (ap (λ (l : List ℕ). splice 0 l out) (none_yet D) ∙ splice_nothing 0 out))
 
-  pub filling_done : (out₀ : List ℕ) (i used : ℕ) (out : List ℕ) → count ≤ i → Filling out₀ i used out
+  pub size-done : (i n : ℕ) → length spans ≤ i → SizeTo i n → (D : Deck) → Here D → n ≡ length (piece_bytes D)
+  size-done i n h s D b = s D b ∙ ap length (all_of_them D i (omega (arith, b.count_is)))
+
+  pub filling_done : (out₀ : List ℕ) (i used : ℕ) (out : List ℕ) → length spans ≤ i → Filling out₀ i used out
       → (D : Deck) → Here D → length (piece_bytes D) ≤ length out₀ → (used ≡ length (piece_bytes D)) × (out ≡ splice 0 (piece_bytes D) out₀)
   filling_done out₀ i used out h s D b room =
       let all : first_bytes D i ≡ piece_bytes D = all_of_them D i (omega (arith, b.count_is)) in
       ((s D b room).0 ∙ ap length all, (s D b room).1 ∙ ap (λ (l : List ℕ). splice 0 l out₀) all)
 
-  module _ (out₀ : List ℕ) (i used : ℕ) (out : List ℕ) (h : i < count) (long : length out ≡ length out₀) (s : Filling out₀ i used out) where
-    -- The next piece has room behind the bytes used.
-    next_within : (D : Deck) → Here D → length (piece_bytes D) ≤ length out₀ → used + length (deck_frames (piece D (conjunct D i))) ≤ length out
-    next_within D b room =
-        omega (
-          arith,
-          long,
-          room,
-          (s D b room).0,
-          first-within-all D (i + 1),
-          ap length (one_more D i (omega (arith, b.count_is))),
-          length-append (first_bytes D i) (deck_frames (piece D (conjunct D i))),
+  module _ (i : ℕ) (h : i < length spans) (span : Span) (e : span ≡ get_or spans i no_span) where
+    placed : (D : Deck) → Here D → Placed D (conjunct D i) deck deps span
+    placed D b =
+        let few : i < length (split D.property) = omega (arith, b.count_is) in
+        let at : BoundsAt (code D.property) spans (conjunct D i) i = bounded_at (code D.property) spans (split D.property) i b.conjuncts few in
+        rw e (
+        record {
+          laid = b.laid;
+          inside = conjunct_inside D b.laid.accepted i few;
+          in_order = at.in_order;
+          to_in = at.within;
+          is_code = at.bounded;
+        }
         )
 
-    pub used-within : (D : Deck) → Here D → length (piece_bytes D) ≤ length out₀ → used ≤ length out
-    used-within D b room = omega (arith, next_within D b room)
+    pub placed-some : (D : Deck) × Here D → (D : Deck) × (x : Expr) × Placed D x deck deps span
+    placed-some (D, b) = (D, conjunct D i, placed D b)
 
-    module _ (from to : ℕ) (f : from ≡ get_or bounds (2 * i) 0) (t : to ≡ get_or bounds (2 * i + 1) 0) where
-      pub free-some : (D : Deck) → Here D → length (piece_bytes D) ≤ length out₀
-          → (E : Deck) × (e : Expr) × Conjunct E e from to × (length (deck_frames (piece E e)) ≤ length (mid_of used (length out - used) out))
-      free-some D b room =
-          (D, conjunct D i, placed i h from to f t D b, omega (arith, next_within D b room, ap length (part-rest used out), length-drop used out))
+    -- One piece counted.
+    module _ (n r : ℕ) (g : (D : Deck) (x : Expr) → Placed D x deck deps span → r ≡ length (deck_frames (piece D x))) (s : SizeTo i n) where
+      pub size_fits : (D : Deck) × Here D → Fits w64 (n + r)
+      size_fits (D, b) =
+          let a : Accepted base D = b.laid.accepted in
+          let few : i < length (split D.property) = omega (arith, b.count_is) in
+          omega (arith, s D b, g D (conjunct D i) (placed D b), first-within D a i (omega (arith, few)), piece-within D a i few, count-few D a)
+
+      pub size_on : SizeTo (i + 1) (n + r)
+      size_on D b =
+          omega (
+            arith,
+            s D b,
+            g D (conjunct D i) (placed D b),
+            ap length (one_more D i (omega (arith, b.count_is))),
+            length-append (first_bytes D i) (deck_frames (piece D (conjunct D i))),
+          )
+
+    -- One piece written.
+    module _ (out₀ : List ℕ) (used : ℕ) (out : List ℕ) (long : length out ≡ length out₀) (s : Filling out₀ i used out) where
+      -- The next piece has room behind the bytes used.
+      next_within : (D : Deck) → Here D → length (piece_bytes D) ≤ length out₀ → used + length (deck_frames (piece D (conjunct D i))) ≤ length out
+      next_within D b room =
+          omega (
+            arith,
+            long,
+            room,
+            (s D b room).0,
+            first-within-all D (i + 1),
+            ap length (one_more D i (omega (arith, b.count_is))),
+            length-append (first_bytes D i) (deck_frames (piece D (conjunct D i))),
+          )
+
+      pub used-within : (D : Deck) × Here D × (length (piece_bytes D) ≤ length out₀) → used ≤ length out
+      used-within (D, b, room) = omega (arith, next_within D b room)
+
+      pub free-some : (D : Deck) × Here D × (length (piece_bytes D) ≤ length out₀)
+          → (D : Deck) × (x : Expr) × Placed D x deck deps span × (length (deck_frames (piece D x)) ≤ length (mid_of used (length out - used) out))
+      free-some (D, b, room) = (D, conjunct D i, placed D b, omega (arith, next_within D b room, ap length (part-rest used out), length-drop used out))
 
       module _ (n : ℕ) (y : List ℕ)
-          (g : (D : Deck) (e : Expr) → Conjunct D e from to
-          → (n ≡ length (deck_frames (piece D e))) × (y ≡ splice 0 (deck_frames (piece D e)) (mid_of used (length out - used) out))) where
-        pub used-fits : (D : Deck) → Here D → length (piece_bytes D) ≤ length out₀ → Fits w64 (used + n)
-        used-fits D b room =
+          (g : (D : Deck) (x : Expr) → Placed D x deck deps span
+          → (n ≡ length (deck_frames (piece D x))) × (y ≡ splice 0 (deck_frames (piece D x)) (mid_of used (length out - used) out))) where
+        pub used-fits : (D : Deck) × Here D × (length (piece_bytes D) ≤ length out₀) → Fits w64 (used + n)
+        used-fits (D, b, room) =
             let a : Accepted base D = b.laid.accepted in
             let few : i < length (split D.property) = omega (arith, b.count_is) in
-            omega (arith, (s D b room).0, (g D (conjunct D i) (placed i h from to f t D b)).0, first-within D a i (omega (arith, few)), piece-within D a i few, count-few D a)
+            omega (arith, (s D b room).0, (g D (conjunct D i) (placed D b)).0, first-within D a i (omega (arith, few)), piece-within D a i few, count-few D a)
 
         pub filling_on : Filling out₀ (i + 1) (used + n) (put_mid used (length out - used) out y)
         filling_on D b room =
             let p : Deck = piece D (conjunct D i) in
-            let done = g D (conjunct D i) (placed i h from to f t D b) in
+            let done = g D (conjunct D i) (placed D b) in
             let before = s D b room in
             let behind : used ≡ 0 + length (first_bytes D i) = omega (arith, before.0) in
             let more : first_bytes D (i + 1) ≡ first_bytes D i ++ deck_frames p = one_more D i (omega (arith, b.count_is)) in (

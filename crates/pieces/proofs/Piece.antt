@@ -1,83 +1,101 @@
 -- Laws of one piece: its cone, its initial states and its frames.
 use mathlib.Core.Path.{◌≡◌, refl, ap, ◌∙◌}
 use mathlib.Core.List.{List}
-use Prim.Native.Nat.{ℕ, zero, suc, ◌≤◌}
+use Prim.Native.Nat.{ℕ, zero, suc, ◌-◌, ◌≤◌, ◌<◌}
 use native.Mathlib.Omega.{arith}
-use lib.ListN.{length, take}
+use lib.ListN.{length, take, drop, length-take, length-drop}
 use Rattle.lists.specs.Lists.{splice, part}
-use Rattle.logic.specs.Expressions.{Expr}
+use Rattle.lists.proofs.Laws.{each_take, each_drop}
+use Rattle.logic.specs.Expressions.{Expr, code}
 use Rattle.logic.specs.Decks.{Equation, Deck, base}
 use Rattle.logic.specs.Cones.{cone}
-use Rattle.logic.specs.Pieces.{cone_of, projected, piece}
+use Rattle.logic.specs.Pieces.{projected, piece}
 use Rattle.logic.proofs.Codes.{written_below}
+use Rattle.decks.specs.declared.Deck.{Deck as Stored}
+use Rattle.decks.proofs.Stored.{stored_inits, stored_property}
 use Rattle.terms.specs.Nodes.{variables_of}
 use Rattle.terms.proofs.Trees.{variables-code}
 use Rattle.cones.specs.Dependencies.{rows, table}
 use Rattle.frames.specs.Written.{deck_frames}
 use Rattle.texts.specs.Lent.{Lent, deck_of, frames_of}
-use Rattle.pieces.specs.Laid.{Placed}
-
-pub cone-closed : (deps : List ℕ) (s set c : ℕ) → set ≡ s → ((qs : List Equation) → deps ≡ table qs → c ≡ cone qs set) → (qs : List Equation) → deps ≡ table qs → c ≡ cone qs s
-cone-closed deps s set c w f qs t = f qs t ∙ ap (cone qs) w
+use Rattle.texts.proofs.Laws.{stored_lent}
+use Rattle.conjuncts.specs.declared.Span.{Span}
+use Rattle.pieces.specs.declared.Kept.{Kept}
+use Rattle.pieces.specs.Laid.{Placed, Keeps}
 
 length-rows : (qs : List Equation) (n v : ℕ) → length (rows qs n v) ≡ n
 unfolding rows
 length-rows qs zero v = refl
 length-rows qs (suc n) v = ap (λ (k : ℕ). suc k) (length-rows qs n (suc v))
 
-module _ (deps inits : List ℕ) (initials : ℕ) (lefts ends nodes : List ℕ) (equations : ℕ) (property : List ℕ) (from to : ℕ) where
+module _ (deck : Stored) (deps : List ℕ) (span : Span) where
   abbrev Here : Deck → Expr → Type 0
-  Here D e = Placed D e deps inits initials lefts ends nodes equations property from to
+  Here D e = Placed D e deck deps span
 
-  pub deps_long : (D : Deck) (e : Expr) → Here D e → length deps ≡ base.variables
-  deps_long D e p = ap length p.laid.table_is ∙ length-rows D.equations 64 0
+  pub deps_long : (D : Deck) × (e : Expr) × Here D e → length deps ≡ base.variables
+  deps_long (D, e, p) = ap length p.laid.table_is ∙ length-rows D.equations 64 0
 
-  -- The cone worked out, and the states seen on it.
-  module _ (c n : ℕ) (states : List ℕ) (f : (qs : List Equation) → deps ≡ table qs → c ≡ cone qs (variables_of (part from to property))) (few : n ≤ initials)
-      (long : length states ≡ 64) (s : take n states ≡ projected c (take initials inits)) where
-    its-cone : (D : Deck) (e : Expr) → Here D e → c ≡ cone_of D e
-    its-cone D e p =
-        f D.equations p.laid.table_is
-        ∙ ap (cone D.equations) (ap variables_of p.is_code ∙ variables-code e (written_below 64 D.vars e p.laid.accepted.vars_in p.inside))
+  -- The nodes of the property as they are lent.
+  module _ (property : List ℕ) (q : property ≡ take deck.size deck.property) where
+    its-code : (D : Deck) (e : Expr) → Here D e → property ≡ code D.property
+    its-code D e p = q ∙ stored_property D deck p.laid.deck_is
 
-    its_frames : (D : Deck) (e : Expr) → Here D e → frames_of c states n D.equations e ≡ deck_frames (piece D e)
-    unfolding piece
-    its_frames D e p =
-        ap (λ (ss : List ℕ). deck_frames (deck_of c ss D.equations e)) (s ∙ ap (projected c) p.laid.states_are)
-        ∙ ap (λ (k : ℕ). deck_frames (deck_of k (projected k D.inits) D.equations e)) (its-cone D e p)
+    its-part : (D : Deck) (e : Expr) → Here D e → part span.from span.to property ≡ code e
+    its-part D e p = ap (λ (l : List ℕ). part span.from span.to l) (its-code D e p) ∙ p.is_code
 
-    its_lent : (D : Deck) (e : Expr) → Here D e → Lent D.equations e states n lefts ends nodes equations property from to
-    its_lent D e p =
+    pub span_within : (D : Deck) × (e : Expr) × Here D e → span.to ≤ length property
+    span_within (D, e, p) = omega (arith, p.to_in, ap length (its-code D e p))
+
+    -- The cone worked out, and the states seen on it.
+    pub keeps : (k : Kept) (w : ℕ) (inits : List ℕ) → w ≡ variables_of (part span.from span.to property) → ((qs : List Equation) → deps ≡ table qs → k.cone ≡ cone qs w)
+        → inits ≡ take deck.initials deck.inits → k.count ≤ length inits → take k.count k.states ≡ projected k.cone inits → (D : Deck) (e : Expr) → Here D e → Keeps D e k
+    keeps k w inits h f i l t D e p =
         record {
-          holds-equations = p.laid.holds-equations;
-          holds-property = p.is_code;
-          nodes_in = p.laid.nodes_in;
-          property_in = p.laid.property_in;
-          initials_in = omega (arith, long, few, p.laid.initials-most);
-          initials-most = omega (arith, few, p.laid.initials-most);
-          equations-most = p.laid.equations-most;
-          from_to = p.from_to;
-          to_in = p.to_in;
-          to_most = omega (arith, p.to_in, p.laid.property-most);
+          cone_is =
+              f D.equations p.laid.table_is
+              ∙ ap (cone D.equations) (h ∙ ap variables_of (its-part D e p) ∙ variables-code e (written_below 64 D.vars e p.laid.accepted.vars_in p.inside));
+          few = omega (arith, l, ap length (i ∙ stored_inits D deck p.laid.deck_is), p.laid.accepted.inits-most);
+          states_are = t ∙ ap (projected k.cone) (i ∙ stored_inits D deck p.laid.deck_is);
         }
 
-    pub lent_some : (D : Deck) (e : Expr) → Here D e → (qs : List Equation) × (x : Expr) × Lent qs x states n lefts ends nodes equations property from to
-    lent_some D e p = (D.equations, e, its_lent D e p)
+    module _ (k : Kept) (kept : (D : Deck) (e : Expr) → Here D e → Keeps D e k) (states : List ℕ) (these : states ≡ take k.count k.states) where
+      its_frames : (D : Deck) (e : Expr) → Here D e → frames_of k.cone states D.equations e ≡ deck_frames (piece D e)
+      unfolding piece
+      its_frames D e p =
+          let its = kept D e p in
+          ap (λ (ss : List ℕ). deck_frames (deck_of k.cone ss D.equations e)) (these ∙ its.states_are)
+          ∙ ap (λ (c : ℕ). deck_frames (deck_of c (projected c D.inits) D.equations e)) its.cone_is
 
-    pub room-some : (D : Deck) (e : Expr) → Here D e → (room : ℕ) → length (deck_frames (piece D e)) ≤ room
-        → (qs : List Equation) × (x : Expr) × Lent qs x states n lefts ends nodes equations property from to × (length (frames_of c states n qs x) ≤ room)
-    room-some D e p room h = (D.equations, e, its_lent D e p, omega (arith, h, ap length (its_frames D e p)))
+      module _ (conjunct : List ℕ) (r : conjunct ≡ part span.from span.to property) where
+        its_lent : (D : Deck) (e : Expr) → Here D e → Lent D.equations e states deck.equations conjunct
+        its_lent D e p =
+            let whole = stored_lent D p.laid.accepted deck p.laid.deck_is (take deck.initials deck.inits) property refl q in
+            record {
+              holds-equations = whole.holds-equations;
+              holds-property = r ∙ its-part D e p;
+              nodes_in = whole.nodes_in;
+              property_in = rw r (each_take (λ (n : ℕ). n < 266) (span.to - span.from) (drop span.from property) (each_drop (λ (n : ℕ). n < 266) span.from property whole.property_in));
+              initials-most = omega (arith, (kept D e p).few, ap length these, length-take k.count k.states);
+              equations-most = whole.equations-most;
+              property-most = omega (arith, whole.property-most, ap length r, length-take (span.to - span.from) (drop span.from property), length-drop span.from property);
+            }
 
-    pub piece_counted : (r : ℕ) → ((qs : List Equation) (x : Expr) → Lent qs x states n lefts ends nodes equations property from to → r ≡ length (frames_of c states n qs x))
-        → (D : Deck) (e : Expr) → Here D e → r ≡ length (deck_frames (piece D e))
-    piece_counted r g D e p = g D.equations e (its_lent D e p) ∙ ap length (its_frames D e p)
+        pub lent_some : (D : Deck) × (e : Expr) × Here D e → (qs : List Equation) × (x : Expr) × Lent qs x states deck.equations conjunct
+        lent_some (D, e, p) = (D.equations, e, its_lent D e p)
 
-    pub piece_wrote : (r : ℕ) (out₀ out : List ℕ)
-        → ((qs : List Equation) (x : Expr) → Lent qs x states n lefts ends nodes equations property from to
-        → (r ≡ length (frames_of c states n qs x)) × (out ≡ splice 0 (frames_of c states n qs x) out₀))
-        → (D : Deck) (e : Expr) → Here D e → (r ≡ length (deck_frames (piece D e))) × (out ≡ splice 0 (deck_frames (piece D e)) out₀)
-    piece_wrote r out₀ out g D e p =
-        let done = g D.equations e (its_lent D e p) in (
-          done.0 ∙ ap length (its_frames D e p),
-          done.1 ∙ ap (λ (l : List ℕ). splice 0 l out₀) (its_frames D e p),
-        )
+        pub room-some : (room : ℕ) → (D : Deck) × (e : Expr) × Here D e × (length (deck_frames (piece D e)) ≤ room)
+            → (qs : List Equation) × (x : Expr) × Lent qs x states deck.equations conjunct × (length (frames_of k.cone states qs x) ≤ room)
+        room-some room (D, e, p, h) = (D.equations, e, its_lent D e p, omega (arith, h, ap length (its_frames D e p)))
+
+        pub piece_counted : (n : ℕ) → ((qs : List Equation) (x : Expr) → Lent qs x states deck.equations conjunct → n ≡ length (frames_of k.cone states qs x))
+            → (D : Deck) (e : Expr) → Here D e → n ≡ length (deck_frames (piece D e))
+        piece_counted n g D e p = g D.equations e (its_lent D e p) ∙ ap length (its_frames D e p)
+
+        pub piece_wrote : (n : ℕ) (out₀ out : List ℕ)
+            → ((qs : List Equation) (x : Expr) → Lent qs x states deck.equations conjunct → (n ≡ length (frames_of k.cone states qs x)) × (out ≡ splice 0 (frames_of k.cone states qs x) out₀))
+            → (D : Deck) (e : Expr) → Here D e → (n ≡ length (deck_frames (piece D e))) × (out ≡ splice 0 (deck_frames (piece D e)) out₀)
+        piece_wrote n out₀ out g D e p =
+            let done = g D.equations e (its_lent D e p) in (
+              done.0 ∙ ap length (its_frames D e p),
+              done.1 ∙ ap (λ (l : List ℕ). splice 0 l out₀) (its_frames D e p),
+            )

@@ -1,9 +1,10 @@
 -- All reduced decks of a deck, written one after the other into a lent buffer (RULES 6.5).
-use Rattle.std.specs.Prelude.{true, false, List, [], ◌∷◌, ◌++◌, ℕ, ltb, length}
+use Rattle.std.specs.Prelude.{true, false, List, [], ◌∷◌, ◌++◌, ℕ, ltb, length, Result, Ok, Err}
 use Rattle.lists.specs.Lists.{splice}
 use Rattle.logic.specs.Decks.{Deck}
 use Rattle.logic.specs.Pieces.{pieces}
-use Rattle.decks.specs.declared.Answer.TheVariants.{Fine, NoRoom}
+use Rattle.decks.specs.declared.Refusal.{Refusal}
+use Rattle.decks.specs.declared.Refusal.TheVariants.{NoRoom}
 use Rattle.frames.specs.Written.{deck_frames}
 use Rattle.pieces.specs.declared.Reduced.{Reduced}
 
@@ -17,11 +18,11 @@ abbrev pub piece_bytes : Deck → List ℕ
 piece_bytes d = all_frames (pieces d)
 
 -- The answer: the number of pieces and the bytes written, or 17 with the bytes that all pieces need.
-unfoldable pub reduced : Deck → ℕ → Reduced
+unfoldable pub reduced : Deck → ℕ → Result Reduced Refusal
 reduced d room =
     elim (ltb room (length (piece_bytes d))) [
-      | true ↦ record { answer = NoRoom (length (piece_bytes d)); pieces = 0; bytes = 0 }
-      | false ↦ record { answer = Fine; pieces = length (pieces d); bytes = length (piece_bytes d) }
+      | true ↦ Err (NoRoom (length (piece_bytes d)))
+      | false ↦ Ok (record { pieces = length (pieces d); bytes = length (piece_bytes d) })
     ]
 
 -- The buffer afterwards: the pieces from its first byte on, and what lay beyond them as it was; unchanged by a refusal.

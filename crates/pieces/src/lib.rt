@@ -1,210 +1,123 @@
 // All reduced decks of a deck, written one behind the other.
 #![tactic(auto)]
 
-ghost use Rattle.std.specs.Prelude.{◌≡◌, List, ◌≤◌, length};
-ghost use Rattle.lists.specs.Lists.{splice, part};
+ghost use Rattle.std.specs.Prelude.{◌≡◌, List, ◌≤◌, length, take};
+ghost use Rattle.lists.specs.Lists.{splice};
 ghost use Rattle.logic.specs.Expressions.{Expr};
-ghost use Rattle.logic.specs.Decks.{Equation, Deck, Accepted, base};
-ghost use Rattle.logic.specs.Cones.{cone};
+ghost use Rattle.logic.specs.Decks.{Deck as Its, Accepted, base};
 ghost use Rattle.logic.specs.Pieces.{piece};
-ghost use Rattle.terms.specs.Nodes.{variables_of};
-ghost use Rattle.cones.specs.Dependencies.{table};
-ghost use Rattle.decks.specs.Answers.{Got};
-ghost use Rattle.decks.specs.Lent.{DeckCame};
+ghost use Rattle.decks.specs.Stored.{stored};
 ghost use Rattle.frames.specs.Written.{deck_frames};
-ghost use Rattle.pieces.specs.Laid.{Placed, Bound};
+ghost use Rattle.pieces.specs.Laid.{Placed, Bound, Keeps};
 ghost use Rattle.pieces.specs.Reduced.{piece_bytes, reduced, reduced_into};
 
-use decks::Answer;
+use conjuncts::Span;
+use decks::{Deck, Refusal};
 
-// What a reduction answers.
+// A property has at most 128 nodes, and of the conjuncts each but one has an `&` beside it.
+const CONJUNCTS: usize = decks::PROPERTY_NODES / 2;
+
+// How many pieces a reduction wrote, and in how many bytes.
 #[derive(Clone, Copy)]
 pub struct Reduced {
-    pub answer: Answer,
     pub pieces: usize,
     pub bytes: usize,
 }
 
-// The cone of the variables written in the nodes from..to, in the equations whose table this is.
-fn cone_of<'a>(deps: &'a [u64], property: &'a [u16], from: usize, to: usize) -> u64
-    requires { length deps.now ≡ base.variables }
-    ensures { (qs : List Equation) → deps.now ≡ table qs → result ≡ cone qs (variables_of (part from to property.now)) }
-{
-    let written = terms::written_in(property, from, to);
-    cones::closing(deps, written)
+// What a piece keeps of its deck: the cone of its conjunct as variables, and the initial states seen on it.
+// No heap: there is room for as many states as a deck may have.
+#[derive(Drop)]
+struct Kept {
+    cone: u64,
+    states: [u64; decks::INITIALS],
+    count: usize,
 }
 
-// The bytes of the piece of the conjunct from..to.
-fn piece_size<'a>(
-    deps: &'a [u64],
-    inits: &'a [u64],
-    initials: usize,
-    lefts: &'a [u16],
-    ends: &'a [u16],
-    nodes: &'a [u16],
-    equations: usize,
-    property: &'a [u16],
-    from: usize,
-    to: usize,
-) -> usize
-    requires { (D : Deck) × (e : Expr) × Placed D e deps.now inits.now initials lefts.now ends.now nodes.now equations property.now from to }
-    ensures { (D : Deck) (e : Expr) → Placed D e deps.now inits.now initials lefts.now ends.now nodes.now equations property.now from to → result ≡ length (deck_frames (piece D e)) }
-{
-    let cone = cone_of(deps, property, from, to);
-    let mut states = [0u64; decks::INITIALS];
-    let n = conjuncts::project(inits, initials, cone, &mut states);
-    texts::frames_size(
-        cone, &states, n, lefts, ends, nodes, equations, property, from, to,
-    )
+impl Kept {
+    fn states(&self) -> &[u64]
+        requires { self.now.count ≤ base.initials }
+        ensures { result.now ≡ take self.now.count self.now.states }
+    {
+        &self.states[..self.count]
+    }
 }
 
-// The piece of the conjunct from..to into a buffer, and how many bytes it filled.
-fn write_piece<'a>(
-    deps: &'a [u64],
-    inits: &'a [u64],
-    initials: usize,
-    lefts: &'a [u16],
-    ends: &'a [u16],
-    nodes: &'a [u16],
-    equations: usize,
-    property: &'a [u16],
-    from: usize,
-    to: usize,
-    out: &mut [u8],
-) -> usize
-    requires { (D : Deck) × (e : Expr) × Placed D e deps.now inits.now initials lefts.now ends.now nodes.now equations property.now from to × (length (deck_frames (piece D e)) ≤ length out.old) }
-    ensures { (D : Deck) (e : Expr) → Placed D e deps.now inits.now initials lefts.now ends.now nodes.now equations property.now from to → (result ≡ length (deck_frames (piece D e))) × (out.new ≡ splice 0 (deck_frames (piece D e)) out.old) }
+// What the piece of the conjunct at this span keeps of a deck whose equations have this table.
+fn kept_by(deck: &Deck, deps: &[u64], span: Span) -> Kept
+    requires { (D : Its) × (e : Expr) × Placed D e deck.now deps.now span }
+    ensures { (D : Its) (e : Expr) → Placed D e deck.now deps.now span → Keeps D e result }
 {
-    let cone = cone_of(deps, property, from, to);
-    let mut states = [0u64; decks::INITIALS];
-    let n = conjuncts::project(inits, initials, cone, &mut states);
-    texts::write_frames(
-        cone, &states, n, lefts, ends, nodes, equations, property, from, to, out,
-    )
+    let written = terms::written_in(deck.property_nodes(), span.from, span.to);
+    let cone = cones::closing(deps, written);
+    let mut states = [0; decks::INITIALS];
+    let count = conjuncts::project(deck.initial_states(), cone, &mut states);
+    Kept {
+        cone,
+        states,
+        count,
+    }
+}
+
+// The bytes of that piece.
+fn piece_size(deck: &Deck, deps: &[u64], span: Span) -> usize
+    requires { (D : Its) × (e : Expr) × Placed D e deck.now deps.now span }
+    ensures { (D : Its) (e : Expr) → Placed D e deck.now deps.now span → result ≡ length (deck_frames (piece D e)) }
+{
+    let kept = kept_by(deck, deps, span);
+    let conjunct = &deck.property_nodes()[span.from..span.to];
+    texts::frames_size(kept.cone, kept.states(), &deck.equations, conjunct)
+}
+
+// The piece into a buffer, and how many bytes it filled.
+fn write_piece(deck: &Deck, deps: &[u64], span: Span, out: &mut [u8]) -> usize
+    requires { (D : Its) × (e : Expr) × Placed D e deck.now deps.now span × (length (deck_frames (piece D e)) ≤ length out.old) }
+    ensures { (D : Its) (e : Expr) → Placed D e deck.now deps.now span → (result ≡ length (deck_frames (piece D e))) × (out.new ≡ splice 0 (deck_frames (piece D e)) out.old) }
+{
+    let kept = kept_by(deck, deps, span);
+    let conjunct = &deck.property_nodes()[span.from..span.to];
+    texts::write_frames(kept.cone, kept.states(), &deck.equations, conjunct, out)
 }
 
 // The bytes of all pieces.
-fn pieces_size<'a>(
-    deps: &'a [u64],
-    inits: &'a [u64],
-    initials: usize,
-    lefts: &'a [u16],
-    ends: &'a [u16],
-    nodes: &'a [u16],
-    equations: usize,
-    property: &'a [u16],
-    bounds: &'a [u16],
-    count: usize,
-) -> usize
-    requires { (D : Deck) × Bound D deps.now inits.now initials lefts.now ends.now nodes.now equations property.now bounds.now count }
-    ensures { (D : Deck) → Bound D deps.now inits.now initials lefts.now ends.now nodes.now equations property.now bounds.now count → result ≡ length (piece_bytes D) }
+fn pieces_size(deck: &Deck, deps: &[u64], spans: &[Span]) -> usize
+    requires { (D : Its) × Bound D deck.now deps.now spans.now }
+    ensures { (D : Its) → Bound D deck.now deps.now spans.now → result ≡ length (piece_bytes D) }
 {
-    let mut i = 0;
     let mut n = 0;
-    while i < count {
-        let from = decks::place_at(bounds, 2 * i);
-        let to = decks::place_at(bounds, 2 * i + 1);
-        n += piece_size(
-            deps, inits, initials, lefts, ends, nodes, equations, property, from, to,
-        );
-        i += 1;
+    for span in spans {
+        n += piece_size(deck, deps, *span);
     }
     n
 }
 
 // All pieces, each into the part of the buffer that the earlier ones left free, and their bytes.
-fn write_pieces<'a>(
-    deps: &'a [u64],
-    inits: &'a [u64],
-    initials: usize,
-    lefts: &'a [u16],
-    ends: &'a [u16],
-    nodes: &'a [u16],
-    equations: usize,
-    property: &'a [u16],
-    bounds: &'a [u16],
-    count: usize,
-    out: &mut [u8],
-) -> usize
-    requires { (D : Deck) × Bound D deps.now inits.now initials lefts.now ends.now nodes.now equations property.now bounds.now count × (length (piece_bytes D) ≤ length out.old) }
-    ensures { (D : Deck) → Bound D deps.now inits.now initials lefts.now ends.now nodes.now equations property.now bounds.now count → length (piece_bytes D) ≤ length out.old → (result ≡ length (piece_bytes D)) × (out.new ≡ splice 0 (piece_bytes D) out.old) }
+fn write_pieces(deck: &Deck, deps: &[u64], spans: &[Span], out: &mut [u8]) -> usize
+    requires { (D : Its) × Bound D deck.now deps.now spans.now × (length (piece_bytes D) ≤ length out.old) }
+    ensures { (D : Its) → Bound D deck.now deps.now spans.now → length (piece_bytes D) ≤ length out.old → (result ≡ length (piece_bytes D)) × (out.new ≡ splice 0 (piece_bytes D) out.old) }
 {
-    let mut i = 0;
     let mut used = 0;
-    while i < count {
-        let from = decks::place_at(bounds, 2 * i);
-        let to = decks::place_at(bounds, 2 * i + 1);
-        let n = write_piece(
-            deps,
-            inits,
-            initials,
-            lefts,
-            ends,
-            nodes,
-            equations,
-            property,
-            from,
-            to,
-            &mut out[used..],
-        );
-        used += n;
-        i += 1;
+    for span in spans {
+        used += write_piece(deck, deps, *span, &mut out[used..]);
     }
     used
 }
 
 // All pieces of a deck into a buffer; 17 with the bytes of all of them, and no byte changed, where it has no room.
-pub fn reduce<'a>(
-    read: decks::DeckRead,
-    inits: &'a [u64],
-    lefts: &'a [u16],
-    ends: &'a [u16],
-    nodes: &'a [u16],
-    property: &'a [u16],
-    out: &mut [u8],
-) -> Reduced
-    requires { (D : Deck) × Accepted base D × DeckCame (Got D) read inits.now lefts.now ends.now nodes.now property.now }
-    ensures { (D : Deck) → Accepted base D → DeckCame (Got D) read inits.now lefts.now ends.now nodes.now property.now → (result ≡ reduced D (length out.old)) × (out.new ≡ reduced_into D out.old) }
+pub fn reduce(deck: &Deck, out: &mut [u8]) -> Result<Reduced, Refusal>
+    requires { (D : Its) × Accepted base D × (deck.now ≡ stored D) }
+    ensures { (D : Its) → Accepted base D → deck.now ≡ stored D → (result ≡ reduced D (length out.old)) × (out.new ≡ reduced_into D out.old) }
 {
-    let mut bounds = [0u16; decks::PROPERTY_NODES];
-    let count = conjuncts::split_property(property, read.size, &mut bounds);
-    let mut deps = [0u64; decks::VARIABLES];
-    cones::dependencies(lefts, ends, nodes, read.equations, &mut deps);
-    let needed = pieces_size(
-        &deps,
-        inits,
-        read.initials,
-        lefts,
-        ends,
-        nodes,
-        read.equations,
-        property,
-        &bounds,
-        count,
-    );
+    let mut deps = [0; decks::VARIABLES];
+    cones::dependencies(&deck.equations, &mut deps);
+    let conjuncts = conjuncts::split_property::<CONJUNCTS>(deck.property_nodes());
+    let spans = conjuncts.as_slice();
+    let needed = pieces_size(deck, &deps, spans);
     if out.len() < needed {
-        return Reduced {
-            answer: Answer::NoRoom(needed as u64),
-            pieces: 0,
-            bytes: 0,
-        };
+        return Err(Refusal::NoRoom(needed as u64));
     }
-    let n = write_pieces(
-        &deps,
-        inits,
-        read.initials,
-        lefts,
-        ends,
-        nodes,
-        read.equations,
-        property,
-        &bounds,
-        count,
-        out,
-    );
-    Reduced {
-        answer: Answer::Fine,
-        pieces: count,
+    let n = write_pieces(deck, &deps, spans, out);
+    Ok(Reduced {
+        pieces: spans.len(),
         bytes: n,
-    }
+    })
 }

@@ -1,1 +1,1 @@
-pub mod Came
+pub mod Within

@@ -1,164 +1,107 @@
 // The reader of decks.
 #![tactic(auto)]
 
-ghost use Rattle.std.specs.Prelude.{◌≡◌, ◌||◌, ◌≤◌, eqb, drop};
-ghost use Rattle.decks.specs.Answers.{Refused};
-ghost use Rattle.decks.specs.Lent.{Blank, DeckCame};
-ghost use Rattle.frames.specs.Written.{equation_kind, property_kind};
-ghost use Rattle.frames.specs.Read.{Due, DueCount, DueNone, Sofar, count_line, permits, deck_line, read_deck};
-ghost use Rattle.decklines.specs.Held.{due_number, held_of, line_of};
-ghost use Rattle.reading.specs.Came.{Holds, Came, Long, Within};
+ghost use Rattle.std.specs.Prelude.{◌≡◌, ◌≤◌, drop};
+ghost use Rattle.logic.specs.Decks.{base};
+ghost use Rattle.decks.specs.Stored.{blank};
+ghost use Rattle.decks.specs.Lent.{ReadInto};
+ghost use Rattle.frames.specs.Read.{Due as FrameDue, DueNone, Sofar, count_line, permits, deck_line, read_deck};
+ghost use Rattle.decklines.specs.Held.{due_of, held_of, line_of, deck_of, Came};
+ghost use Rattle.reading.specs.Within.{Within};
 
-// The kinds of a deck's frames.
-const SET: u64 = 1;
+use decklines::{Due, Held};
+use decks::{Deck, Refusal};
 
-const INIT: u64 = 2;
+// The kinds of a deck's frames. They are bytes of the text: an enum would need a case for every other byte, and say no more than the
+// `match` in which they stand.
+const SET: u8 = 1;
 
-const EQUATION: u64 = 3;
+const INIT: u8 = 2;
 
-const PROPERTY: u64 = 4;
+const EQUATION: u8 = 3;
 
-const COUNT: u64 = 5;
+const PROPERTY: u8 = 4;
+
+const COUNT: u8 = 5;
 
 // The text at fault.
 const DECK_TEXT: u64 = 1;
 
-// Whether the kind is that of an equation or of the property.
-fn equation_or_property(kind: u64) -> bool
-    ensures { result ≡ (eqb kind equation_kind || eqb kind property_kind) }
-{
-    if kind == EQUATION {
-        return true;
-    }
-    kind == PROPERTY
-}
-
 // Whether a frame of the kind may stand where one is due.
-fn permitted(due: u8, kind: u64) -> bool
-    ensures { (d : Due) → due ≡ due_number d → result ≡ permits d kind }
+fn permitted(due: Due, kind: u8) -> bool
+    ensures { (d : FrameDue) → due ≡ due_of d → result ≡ permits d kind }
 {
-    if due == decklines::DUE_SET {
-        return kind == SET;
+    match due {
+        Due::Set => kind == SET,
+        Due::Init => kind == INIT,
+        Due::Any => kind == INIT || kind == EQUATION || kind == PROPERTY,
+        Due::Equation => kind == EQUATION || kind == PROPERTY,
+        Due::Count => kind == COUNT,
+        Due::Nothing => false,
     }
-    if due == decklines::DUE_INIT {
-        return kind == INIT;
-    }
-    if due == decklines::DUE_ANY {
-        if kind == INIT {
-            return true;
-        }
-        return equation_or_property(kind);
-    }
-    if due == decklines::DUE_EQUATION {
-        return equation_or_property(kind);
-    }
-    if due == decklines::DUE_COUNT {
-        return kind == COUNT;
-    }
-    false
 }
 
 // 05: the number of frames before it.
-fn count_line(line: &[u8], n: u64, h: decklines::Held) -> decklines::LineRead
+fn count_line(line: &[u8], n: u64, h: Held) -> Result<Held, Refusal>
     requires { 1 ≤ n }
-    ensures { (s : Sofar) → h ≡ held_of s → s.due ≡ DueCount → result ≡ line_of (count_line 1 n (drop 2 line.now) (record { due = DueNone; deck = s.deck })) }
+    ensures { (s : Sofar) → h ≡ held_of s → result ≡ line_of (count_line 1 n (drop 2 line.now) (record { due = DueNone; deck = s.deck })) }
 {
     if !lines::counts(line, n) {
-        return decklines::bad(n);
+        return Err(Refusal::BadFrame(DECK_TEXT, n));
     }
-    decklines::LineRead {
-        fine: true,
-        answer: decks::Answer::Fine,
-        held: decklines::Held {
-            due: decklines::DUE_NONE,
-            vars: h.vars,
-            initials: h.initials,
-            equations: h.equations,
-            used: h.used,
-            last: h.last,
-            covered: h.covered,
-            size: h.size,
-        },
-    }
+    Ok(Held {
+        due: Due::Nothing,
+        ..h
+    })
 }
 
 // Line n of a deck.
-fn deck_line(
-    line: &[u8],
-    n: u64,
-    h: decklines::Held,
-    inits: &mut [u64],
-    lefts: &mut [u16],
-    ends: &mut [u16],
-    nodes: &mut [u16],
-    property: &mut [u16],
-) -> decklines::LineRead
-    requires { (1 ≤ n) × Within h × Long inits.old lefts.old ends.old nodes.old property.old }
-    ensures { Long inits.new lefts.new ends.new nodes.new property.new × ((s : Sofar) → h ≡ held_of s → Holds s inits.old lefts.old ends.old nodes.old property.old → Came (deck_line n line.now s) result inits.new lefts.new ends.new nodes.new property.new) }
+fn deck_line(line: &[u8], n: u64, h: Held, deck: &mut Deck) -> Result<Held, Refusal>
+    requires { (1 ≤ n) × (h.used ≤ base.equation_nodes) × (deck.old.initials ≤ base.initials) × (deck.old.equations.count ≤ base.equations) }
+    ensures { (s : Sofar) → Within s → h ≡ held_of s → deck.old ≡ deck_of s → Came deck_of (deck_line n line.now s) result deck.new }
 {
-    let kind = lines::pair_at(line, 0);
+    let Some(kind) = lines::pair_at(line, 0) else {
+        return Err(Refusal::BadFrame(DECK_TEXT, n));
+    };
     if !permitted(h.due, kind) {
-        return decklines::bad(n);
+        return Err(Refusal::BadFrame(DECK_TEXT, n));
     }
-    if kind == SET {
-        return decklines::set_line(line, n);
+    match kind {
+        SET => decklines::set_line(line, n, deck),
+        INIT => decklines::init_line(line, n, h, deck),
+        EQUATION => decklines::equation_line(line, n, h, deck),
+        PROPERTY => decklines::property_line(line, n, h, deck),
+        _ => count_line(line, n, h),
     }
-    if kind == INIT {
-        return decklines::init_line(line, n, h, inits);
-    }
-    if kind == EQUATION {
-        return decklines::equation_line(line, n, h, lefts, ends, nodes);
-    }
-    if kind == PROPERTY {
-        return decklines::property_line(line, n, h, property);
-    }
-    count_line(line, n, h)
 }
 
-// A text read as a deck, into rows of zeros.
-pub fn read_deck(
-    text: &[u8],
-    inits: &mut [u64],
-    lefts: &mut [u16],
-    ends: &mut [u16],
-    nodes: &mut [u16],
-    property: &mut [u16],
-) -> decks::DeckRead
-    requires { Blank inits.old lefts.old ends.old nodes.old property.old }
-    ensures { DeckCame (read_deck text.now) result inits.new lefts.new ends.new nodes.new property.new }
+// A text read as a deck, into one of zeros.
+pub fn read_deck(text: &[u8], deck: &mut Deck) -> Result<(), Refusal>
+    requires { deck.old ≡ blank }
+    ensures { ReadInto (read_deck text.now) result deck.new }
 {
     if text.len() > decks::TEXT {
-        return decks::refused(decks::Answer::TooLong(DECK_TEXT));
+        return Err(Refusal::TooLong(DECK_TEXT));
     }
     let mut held = decklines::nothing();
     let mut at = 0;
     let mut n = 1u64;
+    // A claim's lines are gone over in the same way (`claimreading`). One walk for both would need a trait with ghost members and laws for what each line asks for and leaves, and a type that lends each reader its rows: more than both loops, and no plainer.
     while at < text.len() {
         let end = ends::line_end(text, at);
         if end == text.len() {
-            return decks::refused(decks::Answer::BadFrame(DECK_TEXT, 0));
+            return Err(Refusal::BadFrame(DECK_TEXT, 0));
         }
-        let r = deck_line(&text[at..end], n, held, inits, lefts, ends, nodes, property);
-        if !r.fine {
-            let a = r.answer;
-            return decks::refused(a);
-        }
-        held = r.held;
+        held = deck_line(&text[at..end], n, held, deck)?;
         at = end + 1;
         n += 1;
     }
-    if held.due != decklines::DUE_NONE {
-        return decks::refused(decks::Answer::BadFrame(DECK_TEXT, 0));
+    if held.due != Due::Nothing {
+        return Err(Refusal::BadFrame(DECK_TEXT, 0));
     }
-    let missing = sets::without(held.vars, held.covered);
+    let missing = sets::without(deck.vars, held.covered);
     if missing != 0 {
-        return decks::refused(decks::Answer::NoEquation(sets::lowest(missing) as u64));
+        return Err(Refusal::NoEquation(sets::lowest(missing) as u64));
     }
-    decks::DeckRead {
-        answer: decks::Answer::Fine,
-        vars: held.vars,
-        initials: held.initials,
-        equations: held.equations,
-        size: held.size,
-    }
+    Ok(())
 }

@@ -12,8 +12,8 @@ use lib.Dec.{eqb, ltb}
 use lib.ListN.{length}
 use Rattle.lists.specs.Lists.{keep}
 use Rattle.lists.proofs.Laws.{keep_pass, keep_fail}
-use Rattle.decks.specs.declared.Answer.{Answer}
-use Rattle.decks.specs.declared.Answer.TheVariants.{BadByte, TooWide, BadStart, NoneOpen, TooManyCards}
+use Rattle.decks.specs.declared.Refusal.{Refusal}
+use Rattle.decks.specs.declared.Refusal.TheVariants.{BadByte, TooWide, BadStart, NoneOpen, TooManyCards}
 use Rattle.decks.specs.Answers.{Outcome, Got, Refused}
 use Rattle.cards.specs.Card.{blank, continuations, columns, every, is_blank, is_comment, Kind, Comment, Empty, Opening, Continuing, kind_of, Open, Shut, Continued, opened, card_in_form, in_form}
 use Rattle.cards.specs.Columns.{punched, remark}
@@ -211,5 +211,5 @@ unfolding keep
 form_meets cards = meets_walk card_in_form card_faults Stands (λ back card o s. card_meets (suc (length back)) back card o s) cards [] Shut (λ k h. h)
 
 -- The first pass refuses exactly where the answer is that of the first fault, card by card, 2 to 7 in number order.
-pub form_refused_exactly_when : (cards : List (List ℕ)) (a : Answer) → (in_form cards ≡ Refused a) ↔ FirstOf (one_by_one card_faults 1 [] cards) a
+pub form_refused_exactly_when : (cards : List (List ℕ)) (a : Refusal) → (in_form cards ≡ Refused a) ↔ FirstOf (one_by_one card_faults 1 [] cards) a
 form_refused_exactly_when cards a = meets_exactly (one_by_one card_faults 1 [] cards) (Stands (backwards [] cards)) (in_form cards) (form_meets cards) a

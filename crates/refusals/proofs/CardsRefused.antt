@@ -10,7 +10,7 @@ use lib.ListN.{length}
 use Rattle.lists.specs.Lists.{keep}
 use Rattle.lists.proofs.Laws.{some_find, find_some, among_keep, keep_among}
 use Rattle.logic.specs.Decks.{Equation, Deck, base}
-use Rattle.decks.specs.declared.Answer.TheVariants.{NotDue, NoEquation}
+use Rattle.decks.specs.declared.Refusal.TheVariants.{NotDue, NoEquation}
 use Rattle.decks.specs.Answers.{Outcome, Refused}
 use Rattle.decks.specs.Readings.{walk, complete}
 use Rattle.cards.specs.Card.{cards_of, in_form}

@@ -14,8 +14,8 @@ use Rattle.sets.specs.Sets.{inside}
 use Rattle.sets.proofs.Laws.{true_inside, false_inside}
 use Rattle.logic.specs.Decks.{base}
 use Rattle.logic.specs.Meaning.{Claim}
-use Rattle.decks.specs.declared.Answer.{Answer}
-use Rattle.decks.specs.declared.Answer.TheVariants.{BadFrame, Outside}
+use Rattle.decks.specs.declared.Refusal.{Refusal}
+use Rattle.decks.specs.declared.Refusal.TheVariants.{BadFrame, Outside}
 use Rattle.decks.specs.Answers.{Outcome, Got, Refused, refuse, afterwards}
 use Rattle.frames.specs.Hex.{pair, pairs, number}
 use Rattle.frames.specs.Written.{set_bytes, claim_kind, state_kind, claim_count_kind}
@@ -56,7 +56,7 @@ module _ (vars n : ℕ) where
   abbrev Judges : Outcome ClaimSofar → Outcome ClaimFrame → Type 0
   Judges r s = r ≡ afterwards s (judged vars n)
 
-  refuse_judges : (t : Bool) (a : Answer) (r : Outcome ClaimSofar) (s : Outcome ClaimFrame) → Judges r s → Judges (refuse t a r) (refuse t a s)
+  refuse_judges : (t : Bool) (a : Refusal) (r : Outcome ClaimSofar) (s : Outcome ClaimFrame) → Judges r s → Judges (refuse t a r) (refuse t a s)
   refuse_judges true a r s e = refl
   refuse_judges false a r s e = e
 
@@ -119,7 +119,7 @@ module _ (n : ℕ) where
 
 -- ---- read, then written
 
-number_refused : (n k : ℕ) (cs : List ℕ) (a : Answer) → whole_number 2 n k cs ≡ Refused a → a ≡ BadFrame 2 n
+number_refused : (n k : ℕ) (cs : List ℕ) (a : Refusal) → whole_number 2 n k cs ≡ Refused a → a ≡ BadFrame 2 n
 unfolding whole_number
 number_refused n k cs a h = go (number k cs) h
   where

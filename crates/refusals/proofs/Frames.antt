@@ -14,8 +14,8 @@ use Rattle.lists.proofs.Laws.{stands_false, false_stands}
 use Rattle.sets.specs.Sets.{inside}
 use Rattle.logic.specs.Expressions.{Expr, Const, nodes, written}
 use Rattle.logic.specs.Decks.{Deck, base}
-use Rattle.decks.specs.declared.Answer.{Answer}
-use Rattle.decks.specs.declared.Answer.TheVariants.{BadFrame, TooDeep, Outside, ManyInitials, ManyNodes}
+use Rattle.decks.specs.declared.Refusal.{Refusal}
+use Rattle.decks.specs.declared.Refusal.TheVariants.{BadFrame, TooDeep, Outside, ManyInitials, ManyNodes}
 use Rattle.decks.specs.Answers.{Outcome, Got, Refused, refuse, afterwards}
 use Rattle.frames.specs.Hex.{pair, pairs, byte_of, number}
 use Rattle.frames.specs.Written.{set_bytes, set_kind, init_kind, equation_kind, property_kind, count_kind}
@@ -85,7 +85,7 @@ module _ (n : ℕ) (d : Deck) where
   abbrev Judges : Outcome Sofar → Outcome Frame → Type 0
   Judges r s = r ≡ afterwards s (judged n d)
 
-  refuse_judges : (t : Bool) (a : Answer) (r : Outcome Sofar) (s : Outcome Frame) → Judges r s → Judges (refuse t a r) (refuse t a s)
+  refuse_judges : (t : Bool) (a : Refusal) (r : Outcome Sofar) (s : Outcome Frame) → Judges r s → Judges (refuse t a r) (refuse t a s)
   refuse_judges true a r s e = refl
   refuse_judges false a r s e = e
 
@@ -251,7 +251,7 @@ count_permitted DueEquation k e a b c d = ⊎_elim (λ h. true_false (sym h ∙ 
 count_permitted DueCount k e a b c d = (refl, eqb-true k count_kind e)
 count_permitted DueNone k e a b c d = true_false (sym e)
 
-number_refused : (n k : ℕ) (cs : List ℕ) (a : Answer) → whole_number 1 n k cs ≡ Refused a → a ≡ BadFrame 1 n
+number_refused : (n k : ℕ) (cs : List ℕ) (a : Refusal) → whole_number 1 n k cs ≡ Refused a → a ≡ BadFrame 1 n
 unfolding whole_number
 number_refused n k cs a h = go (number k cs) h
   where
@@ -270,7 +270,7 @@ module _ (n : ℕ) (so : Sofar) (l : List ℕ) where
   refuse_comes false r f = f refl
 
   -- A result is looked at further.
-  then_comes : {A : Type 0} (r : Outcome A) (g : A → Outcome Frame) → ((x : A) → r ≡ Got x → Comes (g x)) → ((a : Answer) → r ≡ Refused a → Comes (Refused a)) → Comes (afterwards r g)
+  then_comes : {A : Type 0} (r : Outcome A) (g : A → Outcome Frame) → ((x : A) → r ≡ Got x → Comes (g x)) → ((a : Refusal) → r ≡ Refused a → Comes (Refused a)) → Comes (afterwards r g)
   then_comes (Got x) g f h = f x refl
   then_comes (Refused a) g f h = h a refl
 

@@ -13,7 +13,7 @@ use Rattle.sets.specs.Sets.{◌∋◌, has, inside}
 use Rattle.sets.proofs.Laws.{true_has, has_true, true_inside, false_inside}
 use Rattle.logic.specs.Expressions.{nodes, written, temporal}
 use Rattle.logic.specs.Decks.{Equation, Deck, base, total_nodes}
-use Rattle.decks.specs.declared.Answer.TheVariants.{BadFrame, Outside, Temporal, TooDeep, ManyInitials, ManyEquations, ManyNodes, NoEquation}
+use Rattle.decks.specs.declared.Refusal.TheVariants.{BadFrame, Outside, Temporal, TooDeep, ManyInitials, ManyEquations, ManyNodes, NoEquation}
 use Rattle.decks.specs.Answers.{Outcome, Got, Refused, refuse, afterwards}
 use Rattle.decks.specs.Readings.{walk, complete}
 use Rattle.frames.specs.Read.{Due, DueSet, DueInit, DueAny, DueEquation, DueCount, DueNone, Sofar, begun, with_equation, deck_line, deck_end, read_deck}

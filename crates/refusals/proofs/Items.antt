@@ -13,8 +13,8 @@ use Rattle.sets.specs.Sets.{inside}
 use Rattle.logic.specs.Expressions.{Expr, nodes, written, decimal, spelling}
 use Rattle.logic.specs.Decks.{base}
 use Rattle.logic.proofs.Spelling.{NoDigit}
-use Rattle.decks.specs.declared.Answer.{Answer}
-use Rattle.decks.specs.declared.Answer.TheVariants.{NotDue, TooDeep, Outside, ManyInitials, ManyNodes}
+use Rattle.decks.specs.declared.Refusal.{Refusal}
+use Rattle.decks.specs.declared.Refusal.TheVariants.{NotDue, TooDeep, Outside, ManyInitials, ManyNodes}
 use Rattle.decks.specs.Readings.{Reading, Whole, Wrong, Deep}
 use Rattle.decks.specs.Answers.{Outcome, Got, Refused, refuse, afterwards}
 use Rattle.cards.specs.Grammar.{Counted, Number, NoNumber, read_number, read_expr}
@@ -224,7 +224,7 @@ deep_item u k n cs (p, inr (es, e, far)) =
 
 -- ---- read, then spelt
 
-number_refused : (n most : ℕ) (cs : List ℕ) (a : Answer) → whole_number n most cs ≡ Refused a → a ≡ NotDue n
+number_refused : (n most : ℕ) (cs : List ℕ) (a : Refusal) → whole_number n most cs ≡ Refused a → a ≡ NotDue n
 unfolding whole_number
 number_refused n most cs a h = go (read_number cs) h
   where
@@ -237,7 +237,7 @@ number_refused n most cs a h = go (read_number cs) h
     go (Number v (r ∷ rs)) e = cc
     go (NoNumber rs) e = cc
 
-expr_refused : (n : ℕ) (cs : List ℕ) (a : Answer) → whole_expr n cs ≡ Refused a → (a ≡ NotDue n) ⊎ ((a ≡ TooDeep n) × TooFar cs)
+expr_refused : (n : ℕ) (cs : List ℕ) (a : Refusal) → whole_expr n cs ≡ Refused a → (a ≡ NotDue n) ⊎ ((a ≡ TooDeep n) × TooFar cs)
 unfolding whole_expr
 expr_refused n cs a h = ⊎_elim inl (λ e. inr (e, (too_deep_exactly n cs).0 (h ∙ ap Refused e))) (go (read_expr base.levels cs) h)
   where
@@ -261,7 +261,7 @@ module _ (u : Due) (k n : ℕ) (cs : List ℕ) where
       go none e = o
 
   -- A result that is passed on as an item.
-  passed_comes : {A : Type 0} (r : Outcome A) (i : A → Item) → ((x : A) → r ≡ Got x → Comes (Got (i x))) → ((a : Answer) → r ≡ Refused a → Comes (Refused a)) → Comes (afterwards r (λ x. Got (i x)))
+  passed_comes : {A : Type 0} (r : Outcome A) (i : A → Item) → ((x : A) → r ≡ Got x → Comes (Got (i x))) → ((a : Refusal) → r ≡ Refused a → Comes (Refused a)) → Comes (afterwards r (λ x. Got (i x)))
   passed_comes (Got x) i g h = g x refl
   passed_comes (Refused a) i g h = h a refl
 

@@ -5,7 +5,7 @@ use native.Mathlib.Omega.{arith}
 use Rattle.sets.specs.Sets.{◌∋◌}
 use Rattle.sets.proofs.Laws.{member_lt}
 use Rattle.logic.specs.Decks.{Deck, base}
-use Rattle.decks.specs.declared.Answer.TheVariants.{NoEquation}
+use Rattle.decks.specs.declared.Refusal.TheVariants.{NoEquation}
 use Rattle.decks.specs.Answers.{Outcome, Got, Refused}
 use Rattle.decks.specs.Readings.{complete}
 use Rattle.decks.proofs.Complete.{HasEquation, all-complete, refused_lowest}

@@ -7,7 +7,7 @@ use Prim.Native.Nat.{ℕ, zero, suc, ◌+◌, ◌<◌, ◌≤◌}
 use native.Mathlib.Omega.{arith}
 use lib.ListN.{length}
 use native.Mathlib.Decide.{ℕ_discrete}
-use Rattle.decks.specs.declared.Answer.{Answer}
+use Rattle.decks.specs.declared.Refusal.{Refusal}
 use Rattle.decks.specs.Answers.{Outcome, Got, Refused, refuse, afterwards}
 use Rattle.decks.specs.Readings.{walk}
 use Rattle.decks.proofs.Outcomes.{refused_got, got_eq, walk_got, walk_refused}
@@ -21,27 +21,27 @@ true_false e = let z : ◌≡◌ {A = ℕ} 0 1 = cc in absurd (omega arith)
 -- ---- the first that holds
 
 -- The first that holds is one.
-pub first_unique : (c : Conditions) (a b : Answer) → FirstOf c a → FirstOf c b → a ≡ b
+pub first_unique : (c : Conditions) (a b : Refusal) → FirstOf c a → FirstOf c b → a ≡ b
 first_unique Done a b x'' _ = elim x'' [ ]
 first_unique (Try P x cs) a b (inl (p, e)) (inl (q, f)) = e ∙ sym f
 first_unique (Try P x cs) a b (inl (p, e)) (inr (n, f)) = absurd (n p)
 first_unique (Try P x cs) a b (inr (n, f)) (inl (p, e)) = absurd (n p)
 first_unique (Try P x cs) a b (inr (n, f)) (inr (m, g)) = first_unique cs a b f g
 
-pub first_none : (c : Conditions) (a : Answer) → FirstOf c a → NoneOf c → ⊥
+pub first_none : (c : Conditions) (a : Refusal) → FirstOf c a → NoneOf c → ⊥
 first_none Done a x'' _ = elim x'' [ ]
 first_none (Try P x cs) a (inl (p, e)) (n, ns) = n p
 first_none (Try P x cs) a (inr (m, f)) (n, ns) = first_none cs a f ns
 
 -- ---- one order behind the other
 
-pub first-left : (c d : Conditions) (a : Answer) → FirstOf c a → FirstOf (followed c d) a
+pub first-left : (c d : Conditions) (a : Refusal) → FirstOf c a → FirstOf (followed c d) a
 unfolding followed
 first-left Done d a x' = elim x' [ ]
 first-left (Try P x cs) d a (inl h) = inl h
 first-left (Try P x cs) d a (inr (n, f)) = inr (n, first-left cs d a f)
 
-pub first-right : (c d : Conditions) (a : Answer) → NoneOf c → FirstOf d a → FirstOf (followed c d) a
+pub first-right : (c d : Conditions) (a : Refusal) → NoneOf c → FirstOf d a → FirstOf (followed c d) a
 unfolding followed
 first-right Done d a n f = f
 first-right (Try P x cs) d a (n, ns) f = inr (n, first-right cs d a ns f)
@@ -70,7 +70,7 @@ meets_right c d Q (Got x) n (m, q) = (none_both c d n m, q)
 meets_right c d Q (Refused a) n f = first-right c d a n f
 
 module _ {A : Type 0} where
-  pub meets_exactly : (c : Conditions) (Q : A → Type 0) (r : Outcome A) → Meets c Q r → (a : Answer) → (r ≡ Refused a) ↔ FirstOf c a
+  pub meets_exactly : (c : Conditions) (Q : A → Type 0) (r : Outcome A) → Meets c Q r → (a : Refusal) → (r ≡ Refused a) ↔ FirstOf c a
   unfolding Meets
   meets_exactly c Q (Got x) m a = (λ e. refused_got (sym e), λ f. absurd (first_none c a f m.0))
   meets_exactly c Q (Refused b) m a = (λ e. let same : b ≡ a = cc in subst (FirstOf c) same m, λ f. ap Refused (first_unique c b a m f))
@@ -89,18 +89,18 @@ module _ {A : Type 0} where
   meets_got Q x q = (tt, q)
 
   -- A condition that holds gives its answer.
-  pub meets_here : (P : Type 0) (b : Answer) (c : Conditions) (Q : A → Type 0) → P → Meets {A = A} (Try P b c) Q (Refused b)
+  pub meets_here : (P : Type 0) (b : Refusal) (c : Conditions) (Q : A → Type 0) → P → Meets {A = A} (Try P b c) Q (Refused b)
   unfolding Meets
   meets_here P b c Q p = inl (p, refl)
 
   -- One that does not leaves it to the rest.
-  pub meets_past : (P : Type 0) (b : Answer) (c : Conditions) (Q : A → Type 0) (r : Outcome A) → (P → ⊥) → Meets c Q r → Meets (Try P b c) Q r
+  pub meets_past : (P : Type 0) (b : Refusal) (c : Conditions) (Q : A → Type 0) (r : Outcome A) → (P → ⊥) → Meets c Q r → Meets (Try P b c) Q r
   unfolding Meets
   meets_past P b c Q (Got x) n (m, q) = ((n, m), q)
   meets_past P b c Q (Refused a) n f = inr (n, f)
 
   -- A test that decides the condition.
-  pub meets_test : (P : Type 0) (b : Answer) (c : Conditions) (Q : A → Type 0) (t : Bool) (r : Outcome A) → (t ≡ true → P) → (t ≡ false → P → ⊥) → (t ≡ false → Meets c Q r) → Meets (Try P b c) Q (refuse t b r)
+  pub meets_test : (P : Type 0) (b : Refusal) (c : Conditions) (Q : A → Type 0) (t : Bool) (r : Outcome A) → (t ≡ true → P) → (t ≡ false → P → ⊥) → (t ≡ false → Meets c Q r) → Meets (Try P b c) Q (refuse t b r)
   unfolding Meets
   meets_test P b c Q true r y n m = inl (y refl, refl)
   meets_test P b c Q false r y n m = meets_past P b c Q r (n refl) (m refl)
@@ -126,7 +126,7 @@ Alike Done (Try P b ds) = ⊥
 Alike (Try P a cs) Done = ⊥
 Alike (Try P a cs) (Try Q b ds) = (P ↔ Q) × (a ≡ b) × Alike cs ds
 
-pub alike_first : (c d : Conditions) (a : Answer) → Alike c d → FirstOf c a → FirstOf d a
+pub alike_first : (c d : Conditions) (a : Refusal) → Alike c d → FirstOf c a → FirstOf d a
 alike_first (Try P x cs) Done a x6 _ = elim x6 [ ]
 alike_first Done d a _ x3 = elim x3 [ ]
 alike_first (Try P x cs) (Try Q y ds) a (i, e, m) (inl (p, h)) = inl (i.0 p, h ∙ e)
@@ -170,7 +170,7 @@ module _ {A S : Type 0} (f : ℕ → A → S → Outcome S) (faults : ℕ → Li
 
 -- ---- by rising number
 
-pub rising-first : (P : ℕ → Type 0) (b : ℕ → Answer) (k v w : ℕ) → v ≤ w → w < v + k → P w → ((u : ℕ) → v ≤ u → u < w → P u → ⊥) → FirstOf (rising P b k v) (b w)
+pub rising-first : (P : ℕ → Type 0) (b : ℕ → Refusal) (k v w : ℕ) → v ≤ w → w < v + k → P w → ((u : ℕ) → v ≤ u → u < w → P u → ⊥) → FirstOf (rising P b k v) (b w)
 unfolding rising
 rising-first P b zero v w l h p n = absurd (omega arith)
 rising-first P b (suc k) v w l h p n =
@@ -179,29 +179,29 @@ rising-first P b (suc k) v w l h p n =
     (λ same. inl (subst P (sym same) p, ap b (sym same)))
     (λ other. inr (n v (omega arith) (omega arith), rising-first P b k (suc v) w (omega arith) (omega arith) p (λ u m. n u (omega arith))))
 
-pub rising_none : (P : ℕ → Type 0) (b : ℕ → Answer) (k v : ℕ) → ((u : ℕ) → v ≤ u → u < v + k → P u → ⊥) → NoneOf (rising P b k v)
+pub rising_none : (P : ℕ → Type 0) (b : ℕ → Refusal) (k v : ℕ) → ((u : ℕ) → v ≤ u → u < v + k → P u → ⊥) → NoneOf (rising P b k v)
 unfolding rising
 rising_none P b zero v n = tt
 rising_none P b (suc k) v n = (n v (omega arith) (omega arith), rising_none P b k (suc v) (λ u l h. n u (omega arith) (omega arith)))
 
-pub rising_alike : (P Q : ℕ → Type 0) (b : ℕ → Answer) (k v : ℕ) → ((u : ℕ) → P u ↔ Q u) → Alike (rising P b k v) (rising Q b k v)
+pub rising_alike : (P Q : ℕ → Type 0) (b : ℕ → Refusal) (k v : ℕ) → ((u : ℕ) → P u ↔ Q u) → Alike (rising P b k v) (rising Q b k v)
 unfolding rising
 rising_alike P Q b zero v f = tt
 rising_alike P Q b (suc k) v f = (f v, refl, rising_alike P Q b k (suc v) f)
 
 -- ---- the first in words
 
-followed_apart : (c d : Conditions) (a : Answer) → FirstOf (followed c d) a → FirstOf c a ⊎ (NoneOf c × FirstOf d a)
+followed_apart : (c d : Conditions) (a : Refusal) → FirstOf (followed c d) a → FirstOf c a ⊎ (NoneOf c × FirstOf d a)
 unfolding followed
 followed_apart Done d a f = inr (tt, f)
 followed_apart (Try P b cs) d a (inl h) = inl (inl h)
 followed_apart (Try P b cs) d a (inr (n, f)) = ⊎_elim (λ g. inl (inr (n, g))) (λ (m, g). inr ((n, m), g)) (followed_apart cs d a f)
 
 -- One order behind the other: it is the first of the one, or none of the one holds and it is the first of the other.
-pub followed_exactly : (c d : Conditions) (a : Answer) → FirstOf (followed c d) a ↔ (FirstOf c a ⊎ (NoneOf c × FirstOf d a))
+pub followed_exactly : (c d : Conditions) (a : Refusal) → FirstOf (followed c d) a ↔ (FirstOf c a ⊎ (NoneOf c × FirstOf d a))
 followed_exactly c d a = (followed_apart c d a, ⊎_elim (first-left c d a) (λ (n, f). first-right c d a n f))
 
-module _ {A : Type 0} (faults : ℕ → List A → A → Conditions) (a : Answer) where
+module _ {A : Type 0} (faults : ℕ → List A → A → Conditions) (a : Refusal) where
   -- One member has the first condition, and none before it has any.
   abbrev pub AtOne : ℕ → List A → List A → Type 0
   AtOne n back xs =
@@ -239,7 +239,7 @@ module _ {A : Type 0} (faults : ℕ → List A → A → Conditions) (a : Answer
   )
 
 -- By rising number: it is the lowest whose condition holds.
-rising_lowest : (P : ℕ → Type 0) (b : ℕ → Answer) (k v : ℕ) (a : Answer) → FirstOf (rising P b k v) a → (w : ℕ) × (v ≤ w) × (w < v + k) × P w × ((u : ℕ) → v ≤ u → u < w → P u → ⊥) × (a ≡ b w)
+rising_lowest : (P : ℕ → Type 0) (b : ℕ → Refusal) (k v : ℕ) (a : Refusal) → FirstOf (rising P b k v) a → (w : ℕ) × (v ≤ w) × (w < v + k) × P w × ((u : ℕ) → v ≤ u → u < w → P u → ⊥) × (a ≡ b w)
 unfolding rising
 rising_lowest P b zero v a f = absurd f
 rising_lowest P b (suc k) v a (inl (p, e)) = (v, omega arith, omega arith, p, (λ u l h q. omega arith), e)
@@ -247,7 +247,7 @@ rising_lowest P b (suc k) v a (inr (n, f)) =
     let (w, l, h, p, low, e) = rising_lowest P b k (suc v) a f in
     (w, omega arith, omega arith, p, (λ u m i q. by_cases (ℕ_discrete u v) (λ s. n (subst P s q)) (λ o. low u (omega arith) i q)), e)
 
-pub rising_exactly : (P : ℕ → Type 0) (b : ℕ → Answer) (k v : ℕ) (a : Answer)
+pub rising_exactly : (P : ℕ → Type 0) (b : ℕ → Refusal) (k v : ℕ) (a : Refusal)
     → FirstOf (rising P b k v) a
     ↔ ((w : ℕ) × (v ≤ w) × (w < v + k) × P w × ((u : ℕ) → v ≤ u → u < w → P u → ⊥) × (a ≡ b w))
 rising_exactly P b k v a = (rising_lowest P b k v a, λ (w, l, h, p, low, e). subst (FirstOf (rising P b k v)) (sym e) (rising-first P b k v w l h p low))

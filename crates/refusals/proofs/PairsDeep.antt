@@ -9,8 +9,8 @@ use native.Mathlib.Decide.{dec_lt}
 use lib.ListN.{get_or}
 use Rattle.logic.specs.Expressions.{Expr, Const, Var, One, Two, Op1, Op2, Not, Next, Future, Always, And, Or, Until, Weak, levels, node1, node2, code, Below}
 use Rattle.logic.specs.Decks.{base}
-use Rattle.decks.specs.declared.Answer.{Answer}
-use Rattle.decks.specs.declared.Answer.TheVariants.{BadFrame, TooDeep}
+use Rattle.decks.specs.declared.Refusal.{Refusal}
+use Rattle.decks.specs.declared.Refusal.TheVariants.{BadFrame, TooDeep}
 use Rattle.decks.specs.Answers.{Outcome, Got, Refused}
 use Rattle.frames.specs.Hex.{pair, byte_of}
 use Rattle.frames.specs.Written.{code_byte, node_pairs}
@@ -160,7 +160,7 @@ pub far_refused : (n : ℕ) (cs : List ℕ) → TooFarDown cs → whole_expr n c
 unfolding whole_expr
 far_refused n cs (front, rest, e, p, b) = let d : read_expr base.levels cs ≡ Deep rest = ap (read_expr base.levels) e ∙ opens-deep base.levels front rest p b in simp (d, whole_expr)
 
-pub expr_refused : (n : ℕ) (cs : List ℕ) (a : Answer) → whole_expr n cs ≡ Refused a → (a ≡ BadFrame 1 n) ⊎ ((a ≡ TooDeep n) × TooFarDown cs)
+pub expr_refused : (n : ℕ) (cs : List ℕ) (a : Refusal) → whole_expr n cs ≡ Refused a → (a ≡ BadFrame 1 n) ⊎ ((a ≡ TooDeep n) × TooFarDown cs)
 unfolding whole_expr
 expr_refused n cs a h = go (read_expr base.levels cs) (read_stops base.levels cs) h
   where

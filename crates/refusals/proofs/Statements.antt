@@ -14,7 +14,7 @@ use Rattle.sets.specs.Sets.{◌∋◌, has, inside}
 use Rattle.sets.proofs.Laws.{bit-only, true_has, has_true, true_inside, false_inside}
 use Rattle.logic.specs.Expressions.{nodes, written, temporal}
 use Rattle.logic.specs.Decks.{Equation, base, total_nodes}
-use Rattle.decks.specs.declared.Answer.TheVariants.{NotDue, Outside, Temporal, TooDeep, ManyInitials, ManyEquations, ManyNodes}
+use Rattle.decks.specs.declared.Refusal.TheVariants.{NotDue, Outside, Temporal, TooDeep, ManyInitials, ManyEquations, ManyNodes}
 use Rattle.decks.specs.Answers.{Outcome, Got, Refused, refuse, afterwards}
 use Rattle.decks.specs.Readings.{walk}
 use Rattle.cards.specs.Statement.{Statement, inked}

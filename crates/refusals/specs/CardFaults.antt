@@ -2,7 +2,7 @@
 use Rattle.std.specs.Prelude.{◌≡◌, ◌⊎◌, false, List, [], ◌∷◌, ℕ, zero, suc, ◌<◌, ◌≤◌, length}
 use Prim.Native.Char.{code as character}
 use Rattle.lists.specs.Lists.{Some}
-use Rattle.decks.specs.declared.Answer.TheVariants.{BadByte, TooWide, BadStart, BadNumber, NoneOpen, TooManyCards}
+use Rattle.decks.specs.declared.Refusal.TheVariants.{BadByte, TooWide, BadStart, BadNumber, NoneOpen, TooManyCards}
 use Rattle.cards.specs.Columns.{punched, remark}
 use Rattle.cards.specs.Comments.{uncommented}
 use Rattle.cards.specs.Card.{continuations}

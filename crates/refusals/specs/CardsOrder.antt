@@ -2,7 +2,7 @@
 use Rattle.std.specs.Prelude.{◌≡◌, List, [], ℕ, ◌<◌, length}
 use Rattle.lists.specs.Lists.{Some}
 use Rattle.logic.specs.Decks.{Equation, Deck, base}
-use Rattle.decks.specs.declared.Answer.TheVariants.{TooLong, NotDue, NoEquation}
+use Rattle.decks.specs.declared.Refusal.TheVariants.{TooLong, NotDue, NoEquation}
 use Rattle.cards.specs.Card.{cards_of}
 use Rattle.cards.specs.Statement.{Statement, statements_of}
 use Rattle.cards.specs.Typed.{deck_of}

@@ -4,7 +4,7 @@ use Rattle.lists.specs.Lists.{ended, unended}
 use Rattle.sets.specs.Sets.{◌⊆◌}
 use Rattle.logic.specs.Decks.{base}
 use Rattle.logic.specs.Meaning.{Claim}
-use Rattle.decks.specs.declared.Answer.TheVariants.{TooLong, BadFrame, Outside}
+use Rattle.decks.specs.declared.Refusal.TheVariants.{TooLong, BadFrame, Outside}
 use Rattle.frames.specs.Hex.{pair, pairs}
 use Rattle.frames.specs.Written.{set_bytes, claim_kind, state_kind, claim_count_kind}
 use Rattle.frames.specs.Read.{ClaimSofar, ClaimDue, StatesDue, ClaimWhole}

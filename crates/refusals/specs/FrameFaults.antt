@@ -4,7 +4,7 @@ use Rattle.lists.specs.Lists.{◌among◌}
 use Rattle.sets.specs.Sets.{◌∋◌, ◌⊆◌}
 use Rattle.logic.specs.Expressions.{Op1, Op2, Expr, nodes, levels, written, Plain, node1, node2, code, Below}
 use Rattle.logic.specs.Decks.{Equation, Deck, base, total_nodes}
-use Rattle.decks.specs.declared.Answer.TheVariants.{BadFrame, Outside, Temporal, TooDeep, ManyInitials, ManyEquations, ManyNodes}
+use Rattle.decks.specs.declared.Refusal.TheVariants.{BadFrame, Outside, Temporal, TooDeep, ManyInitials, ManyEquations, ManyNodes}
 use Rattle.frames.specs.Hex.{pair, pairs}
 use Rattle.frames.specs.Written.{set_bytes, set_kind, init_kind, equation_kind, property_kind, count_kind, code_byte, node_pairs}
 use Rattle.frames.specs.Read.{Due, DueSet, DueInit, DueAny, DueEquation, DueCount, DueNone, Sofar, begun, last_left}

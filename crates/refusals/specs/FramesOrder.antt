@@ -3,7 +3,7 @@ use Rattle.std.specs.Prelude.{◌≡◌, ◌⊎◌, List, [], ℕ, ◌<◌, leng
 use Rattle.lists.specs.Lists.{Some, ended, unended}
 use Rattle.sets.specs.Sets.{◌∋◌}
 use Rattle.logic.specs.Decks.{Equation, Deck, base}
-use Rattle.decks.specs.declared.Answer.TheVariants.{TooLong, BadFrame, NoEquation}
+use Rattle.decks.specs.declared.Refusal.TheVariants.{TooLong, BadFrame, NoEquation}
 use Rattle.frames.specs.Read.{DueNone}
 use Rattle.refusals.specs.Order.{Conditions, Try, followed, one_by_one, backwards, rising}
 use Rattle.refusals.specs.FrameFaults.{Behind, line_faults}

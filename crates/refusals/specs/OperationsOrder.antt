@@ -1,19 +1,19 @@
 -- The conditions of the operations on a deck that is read, in the order of RULES 7.5: a cone's 9, 17, and 20 to 22.
-use Rattle.std.specs.Prelude.{◌≡◌, List, ℕ, ◌+◌, ◌<◌, length}
+use Rattle.std.specs.Prelude.{◌≡◌, List, ℕ, ◌+◌, ◌<◌, length, Result, Err}
 use Rattle.lists.specs.Lists.{Each, ◌among◌}
 use Rattle.sets.specs.Sets.{◌∋◌, ◌⊆◌}
 use Rattle.logic.specs.Decks.{Deck, Accepted, base}
 use Rattle.logic.specs.Meaning.{Claim, Sized, Holds, state_of, ClaimStep, claim_run}
-use Rattle.decks.specs.declared.Answer.{Answer}
-use Rattle.decks.specs.declared.Answer.TheVariants.{Outside, NoRoom, NotInitial, NoStep, Holding}
+use Rattle.decks.specs.declared.Refusal.{Refusal}
+use Rattle.decks.specs.declared.Refusal.TheVariants.{Outside, NoRoom, NotInitial, NoStep, Holding}
 use Rattle.decks.specs.Answers.{Outcome, Got, Refused}
 use Rattle.frames.specs.Written.{deck_frames, claim_frames}
 use Rattle.refusals.specs.Order.{Conditions, Done, Try, followed, rising}
 
--- The answer of an operation on what is read: the reader's refusal, or else the operation's own.
-abbrev pub answer_to : {A : Type 0} → Outcome A → (A → Answer) → Answer
+-- What an operation on what is read comes to: the reader's refusal, or else what the operation itself does.
+abbrev pub answer_to : {A B : Type 0} → Outcome A → (A → Result B Refusal) → Result B Refusal
 answer_to (Got x) f = f x
-answer_to (Refused a) f = a
+answer_to (Refused a) f = Err a
 
 -- The text is the frames of the deck, and the deck keeps the rules of a deck.
 abbrev pub IsDeck : List ℕ → Deck → Type 0

@@ -1,14 +1,14 @@
 -- Conditions in an order: which one is the first that holds.
 use Rattle.std.specs.Prelude.{◌≡◌, ◌⊎◌, List, [], ◌∷◌, ℕ, zero, suc}
-use Rattle.decks.specs.declared.Answer.{Answer}
+use Rattle.decks.specs.declared.Refusal.{Refusal}
 
 -- Conditions, each with the answer it gives, in the order in which they count.
 pub data Conditions : Type 1 where
   Done : Conditions
-  Try : Type 0 → Answer → Conditions → Conditions
+  Try : Type 0 → Refusal → Conditions → Conditions
 
 -- The answer is that of the first condition that holds: it holds, and none before it does.
-abbrev pub FirstOf : Conditions → Answer → Type 0
+abbrev pub FirstOf : Conditions → Refusal → Type 0
 FirstOf Done a = ⊥
 FirstOf (Try P b cs) a = (P × (a ≡ b)) ⊎ ((P → ⊥) × FirstOf cs a)
 
@@ -33,6 +33,6 @@ backwards back [] = back
 backwards back (x ∷ xs) = backwards (x ∷ back) xs
 
 -- k conditions, one for each number from v on.
-unfoldable pub rising : (ℕ → Type 0) → (ℕ → Answer) → ℕ → ℕ → Conditions
+unfoldable pub rising : (ℕ → Type 0) → (ℕ → Refusal) → ℕ → ℕ → Conditions
 rising P b zero v = Done
 rising P b (suc k) v = Try (P v) (b v) (rising P b k (suc v))

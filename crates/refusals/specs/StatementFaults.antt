@@ -4,7 +4,7 @@ use Rattle.lists.specs.Texts.{bytes}
 use Rattle.sets.specs.Sets.{◌⊆◌}
 use Rattle.logic.specs.Expressions.{Expr, nodes, levels, written, Plain, decimal, spelling, Below}
 use Rattle.logic.specs.Decks.{Equation, base, total_nodes}
-use Rattle.decks.specs.declared.Answer.TheVariants.{NotDue, Outside, Temporal, TooDeep, ManyInitials, ManyEquations, ManyNodes}
+use Rattle.decks.specs.declared.Refusal.TheVariants.{NotDue, Outside, Temporal, TooDeep, ManyInitials, ManyEquations, ManyNodes}
 use Rattle.cards.specs.Statement.{Statement, inked}
 use Rattle.cards.specs.Typed.{Typed, init_spelt, equation_spelt, first_vars}
 use Rattle.cards.specs.Read.{Due, DueVars, DueInit, DueAny, DueEquation, DueEnd, DueNone, Sofar, begun}

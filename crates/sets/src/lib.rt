@@ -62,23 +62,16 @@ pub fn subset(s: u64, all: u64) -> bool
     (s & all) == s
 }
 
-// A count of digits as a number of variables.
-fn wide(n: u32) -> usize
-    ensures { result ≡ n }
-{
-    n as usize
-}
-
 // The number of variables in the set.
 pub fn size(s: u64) -> usize
     ensures { result ≡ size s }
 {
-    wide(u64::count_ones(s))
+    s.count_ones() as usize
 }
 
-// The lowest variable of the set; WIDTH for the empty set.
+// The lowest variable of the set; WIDTH for the empty set, which the program `ground` prints and `lowest_of` says: trailing zeros, as the rules ask.
 pub fn lowest(s: u64) -> usize
     ensures { result ≡ lowest_of s }
 {
-    wide(u64::trailing_zeros(s))
+    s.trailing_zeros() as usize
 }

@@ -1,14 +1,13 @@
 -- The statement in hand as memory holds it, a card folded into it, and what the walk from statement to statement takes.
-use Rattle.std.specs.Prelude.{◌≡◌, Bool, true, false, List, [], ◌∷◌, ◌++◌, ℕ, ◌+◌, ◌-◌, ◌<◌, ◌≤◌, length, take, drop, set, replicate}
+use Rattle.std.specs.Prelude.{◌≡◌, Bool, true, false, List, [], ◌∷◌, ◌++◌, ℕ, ◌+◌, ◌-◌, ◌<◌, ◌≤◌, length, set, replicate, Option, Some, None}
 use Rattle.lists.specs.Lists.{padded, splice}
 use Rattle.decks.specs.Answers.{Got}
 use Rattle.decks.specs.Readings.{walk}
-use Rattle.cards.specs.Card.{cards_of, blank, field_start, field_end, field_columns, Kind, Comment, Empty, Opening, Continuing, is_comment, kind_of, Open, card_in_form}
+use Rattle.cards.specs.Card.{cards_of, blank, field_columns, Kind, Comment, Empty, Opening, Continuing, is_comment, kind_of, Open, card_in_form}
 use Rattle.cards.specs.Statement.{Statement, Nothing, gathered}
-use Rattle.ends.specs.Ends.{line_length}
+use Rattle.firstpass.specs.declared.Cards.{Cards}
 use Rattle.statements.specs.declared.Stmt.{Stmt}
-use Rattle.statements.specs.declared.Place.{Place}
-use Rattle.statements.specs.declared.Taken.{Taken}
+use Rattle.statements.specs.declared.Opener.{Opener}
 
 -- The characters and the cards that a statement may have.
 abbrev pub characters : ℕ
@@ -35,13 +34,6 @@ filled field = field ++ replicate (field_columns - length field) blank
 -- The field of card n behind those in hand.
 abbrev pub with_card : Stmt → ℕ → List ℕ → Stmt
 with_card s n field = record { chars = splice s.used (filled field) s.chars; used = s.used + field_columns; cards = set s.cards s.count n; count = s.count + 1 }
-
--- Card n of this kind folded into what is in hand: none but a continuation changes it.
-abbrev pub folded_in : Stmt → Kind → ℕ → List ℕ → Stmt
-folded_in s Comment n card = s
-folded_in s Empty n card = s
-folded_in s Opening n card = s
-folded_in s Continuing n card = with_card s n (drop (field_start - 1) (take field_end card))
 
 -- The cards that open a statement.
 abbrev pub opens : Kind → Bool
@@ -75,32 +67,29 @@ pub record Formed (n : ℕ) (cards : List (List ℕ)) : Type 0 where
   pub behind : Open
   pub walked : walk card_in_form n cards before ≡ Got behind
 
--- The card that begins at a place of the text.
-abbrev pub card_at : List ℕ → ℕ → List ℕ
-card_at text at = take (line_length (drop at text)) (drop at text)
+-- The statements of cards, from one of them on.
+abbrev pub following : Cards → List Statement
+following c = gathered c.n (cards_of c.text.now) Nothing
 
--- From a place on all cards are in form; the one that begins there, if one does, opens a statement.
-pub record Placed (text : List ℕ) (p : Place) : Type 0 where
-  pub near : p.n ≤ p.at + 1
-  pub formed : Formed p.n (cards_of (drop p.at text))
-  pub opener : p.at < length text → kind_of (card_at text p.at) ≡ Opening
-  pub ends : p.at < length text → p.end ≡ p.at + line_length (drop p.at text)
-  pub within : p.at < length text → p.end ≤ length text
+-- Those from a card on that opens one.
+abbrev pub from_opener : Opener → List Statement
+from_opener o = gathered o.n (o.card.now ∷ cards_of o.behind.text.now) Nothing
 
--- From a place of the text, where card n begins, to the next card that opens a statement, or to the end: the same statements follow.
-pub record AtOpening (text : List ℕ) (at n : ℕ) (p : Place) : Type 0 where
-  pub onward : at ≤ p.at
-  pub same : gathered n (cards_of (drop at text)) Nothing ≡ gathered p.n (cards_of (drop p.at text)) Nothing
-  pub placed : Placed text p
+-- The card opens a statement, and from it on all cards are in form.
+pub record Placed (o : Opener) : Type 0 where
+  pub opener : kind_of o.card.now ≡ Opening
+  pub next : o.behind.n ≡ o.n + 1
+  pub formed : Formed o.n (o.card.now ∷ cards_of o.behind.text.now)
 
--- The first of the statements is in hand and the rest follow; or there is none.
-abbrev pub FirstOf : List Statement → Bool → Stmt → List Statement → Type 0
-FirstOf [] found stmt rest = (found ≡ false) × (stmt ≡ held [] []) × (rest ≡ [])
-FirstOf (s ∷ ss) found stmt rest = (found ≡ true) × (stmt ≡ stmt_of s) × (rest ≡ ss)
+-- The next card that opens a statement: the same statements follow; or there is none.
+abbrev pub AtOpener : Cards → Option Opener → Type 0
+AtOpener cards None = following cards ≡ []
+AtOpener cards (Some o) = (following cards ≡ from_opener o) × (length o.behind.text.now < length cards.text.now) × Placed o
 
--- What is taken from a place of the text, where card n begins: the next statement, and the place and number of the card behind it, from where all is in form.
-pub record Takes (text : List ℕ) (at n : ℕ) (r : Taken) : Type 0 where
-  pub first : FirstOf (gathered n (cards_of (drop at text)) Nothing) r.found r.stmt (gathered r.n (cards_of (drop r.at text)) Nothing)
-  pub onward : r.found ≡ true → at < r.at
-  pub near : r.n ≤ r.at + 1
-  pub formed : Formed r.n (cards_of (drop r.at text))
+-- The statement that a card opens is in hand, and the cards behind it are left, from where all is in form.
+pub record Takes (o : Opener) (stmt : Stmt) (left : Cards) : Type 0 where
+  pub its : Statement
+  pub stmt_is : stmt ≡ stmt_of its
+  pub first : from_opener o ≡ its ∷ following left
+  pub onward : length left.text.now ≤ length o.behind.text.now
+  pub formed : Formed left.n (cards_of left.text.now)

@@ -1,13 +1,11 @@
-// The statement in hand, cards folded into it, and the walk over the text from statement to statement.
+// The statement in hand, cards folded into it, and the walk over the cards from statement to statement.
 #![tactic(auto)]
 
-ghost use Rattle.std.specs.Prelude.{◌≡◌, [], ◌+◌, ◌<◌, ◌≤◌, length, drop};
-ghost use Rattle.cards.specs.Card.{cards_of, field_columns, Continuing, kind_of};
-ghost use Rattle.firstpass.specs.Passed.{kind_is};
-ghost use Rattle.statements.specs.Hold.{held, Room, with_card, folded_in, opens, ends, continues, continued, Formed, card_at, AtOpening, Takes};
+ghost use Rattle.std.specs.Prelude.{◌≡◌, [], ◌+◌, ◌<◌, ◌≤◌, length, take};
+ghost use Rattle.cards.specs.Card.{cards_of, field_columns, kind_of};
+ghost use Rattle.statements.specs.Hold.{held, Room, with_card, characters, continues, continued, Formed, Placed, AtOpener, Takes};
 
-use ends::line_end;
-use firstpass::{CardKind, column, field, is_comment, kind_of};
+use firstpass::{CardKind, Cards, column, field, is_comment, kind_of};
 
 // The characters of a statement, its cards, and the columns of a card's field.
 pub const CHARACTERS: usize = 1320;
@@ -16,10 +14,11 @@ pub const CARDS: usize = 20;
 
 pub const FIELD: usize = 66;
 
-// Column 6, from the card's first on.
-const MARK: usize = 5;
+// The column of a card that says whether it continues a statement.
+const MARK: usize = 6;
 
 // A statement in hand: the fields of its cards one after the other, each filled with blanks to its 66 columns, and the numbers of its cards.
+// No heap: it has room for the most that a statement may have.
 #[derive(Clone, Copy)]
 pub struct Stmt {
     pub chars: [u8; CHARACTERS],
@@ -28,21 +27,22 @@ pub struct Stmt {
     pub count: usize,
 }
 
-// Where card n of a text begins, and where it ends.
+// A card that opens a statement: its number, what stands on it, and the cards behind it.
 #[derive(Clone, Copy)]
-pub struct Place {
-    pub at: usize,
+pub struct Opener<'a> {
     pub n: u64,
-    pub end: usize,
+    pub card: &'a [u8],
+    pub behind: Cards<'a>,
 }
 
-// What the walk takes: whether a statement, which, and where the cards behind it begin.
-#[derive(Clone, Copy)]
-pub struct Taken {
-    pub found: bool,
-    pub stmt: Stmt,
-    pub at: usize,
-    pub n: u64,
+impl Stmt {
+    // Its characters.
+    pub fn characters(&self) -> &[u8]
+        requires { self.now.used ≤ characters }
+        ensures { result.now ≡ take self.now.used self.now.chars }
+    {
+        &self.chars[..self.used]
+    }
 }
 
 // No statement.
@@ -57,196 +57,79 @@ pub fn nothing() -> Stmt
     }
 }
 
-// The statement with the field of card n behind its own.
-fn appended(s: Stmt, n: u64, field: &[u8]) -> Stmt
-    requires { Room s × (length field.now ≤ field_columns) }
-    ensures { result ≡ with_card s n field.now }
+// The field of card n behind those in hand.
+fn append(stmt: &mut Stmt, n: u64, field: &[u8])
+    requires { Room stmt.old × (length field.now ≤ field_columns) }
+    ensures { stmt.new ≡ with_card stmt.old n field.now }
 {
-    let at = s.used;
-    let last = s.count;
-    let mut chars = s.chars;
-    let mut cards = s.cards;
-    let mut i = 0;
-    while i < FIELD {
-        let c = column(field, i + 1);
-        chars[at + i] = c;
-        i += 1;
-    }
-    cards[last] = n;
-    Stmt {
-        chars: chars,
-        used: at + FIELD,
-        cards: cards,
-        count: last + 1,
-    }
+    let blanks = stmt.used + field.len();
+    let end = stmt.used + FIELD;
+    stmt.chars[stmt.used..blanks].copy_from_slice(field);
+    stmt.chars[blanks..end].fill(b' ');
+    stmt.cards[stmt.count] = n;
+    stmt.used = end;
+    stmt.count += 1;
 }
 
-// Card n folded into the statement in hand.
-fn append(s: &mut Stmt, n: u64, field: &[u8])
-    requires { Room s.old × (length field.now ≤ field_columns) }
-    ensures { s.new ≡ with_card s.old n field.now }
+// The next card that opens a statement.
+pub fn opening<'a>(cards: Cards<'a>) -> Option<Opener<'a>>
+    requires { Formed cards.n (cards_of cards.text.now) }
+    ensures { AtOpener cards.entry result }
 {
-    let was = *s;
-    let next = appended(was, n, field);
-    *s = next;
-}
-
-// The statement with card n folded into it.
-fn with_card(s: Stmt, n: u64, field: &[u8]) -> Stmt
-    requires { Room s × (length field.now ≤ field_columns) }
-    ensures { result ≡ with_card s n field.now }
-{
-    let mut t = s;
-    append(&mut t, n, field);
-    t
-}
-
-// The cards that open a statement.
-fn opens(kind: CardKind) -> bool
-    ensures { result ≡ opens (kind_is kind) }
-{
-    match kind {
-        CardKind::Comment => false,
-        CardKind::Empty => false,
-        CardKind::Opening => true,
-        CardKind::Continuing => false,
-    }
-}
-
-// The cards before which a statement ends.
-fn ends(kind: CardKind) -> bool
-    ensures { result ≡ ends (kind_is kind) }
-{
-    match kind {
-        CardKind::Comment => false,
-        CardKind::Empty => true,
-        CardKind::Opening => true,
-        CardKind::Continuing => false,
-    }
-}
-
-// Card n of this kind folded into the statement: none but a continuation changes it.
-fn folded(s: Stmt, kind: CardKind, n: u64, card: &[u8]) -> Stmt
-    requires { kind_is kind ≡ Continuing → Room s }
-    ensures { result ≡ folded_in s (kind_is kind) n card.now }
-{
-    match kind {
-        CardKind::Comment => s,
-        CardKind::Empty => s,
-        CardKind::Opening => s,
-        CardKind::Continuing => with_card(s, n, field(card)),
-    }
-}
-
-// From card n, which begins at a place of the text, to the next that opens a statement, or to the end.
-pub fn opening(text: &[u8], at: usize, n: u64) -> Place
-    requires { (n ≤ at + 1) × Formed n (cards_of (drop at text.now)) }
-    ensures { AtOpening text.now at n result }
-{
-    let mut i = at;
-    let mut k = n;
-    while i < text.len() {
-        let end = line_end(text, i);
-        let kind = kind_of(&text[i..end]);
-        if opens(kind) {
-            return Place {
-                at: i,
-                n: k,
-                end: end,
-            };
+    let mut left = cards;
+    while let Some((card, behind)) = left.split_first() {
+        if kind_of(card) == CardKind::Opening {
+            return Some(Opener {
+                n: left.n,
+                card,
+                behind,
+            });
         }
-        i = end + 1;
-        k += 1;
+        left = behind;
     }
-    Place {
-        at: i,
-        n: k,
-        end: i,
-    }
+    None
 }
 
-// The cards that continue a statement.
-fn continues(kind: CardKind) -> bool
-    ensures { result ≡ continues (kind_is kind) }
+// Whether a card continues a statement: none does that has a blank in column 6.
+fn continues(card: &[u8]) -> bool
+    ensures { result ≡ continues (kind_of card.now) }
 {
-    match kind {
-        CardKind::Comment => false,
-        CardKind::Empty => false,
-        CardKind::Opening => false,
-        CardKind::Continuing => true,
-    }
-}
-
-// Whether the card that begins at a place of the text continues a statement: none does that has a blank in column 6.
-fn card_continues(text: &[u8], at: usize) -> bool
-    requires { at < length text.now }
-    ensures { result ≡ continues (kind_of (card_at text.now at)) }
-{
-    if text.len() <= at + MARK {
+    if column(card, MARK) == b' ' {
         return false;
     }
-    if text[at + MARK] == b' ' {
-        return false;
-    }
-    let end = line_end(text, at);
-    continues(kind_of(&text[at..end]))
+    kind_of(card) == CardKind::Continuing
 }
 
-// Whether the next card from a place of the text on that is no comment, if there is one, continues the statement before it.
-pub fn is_continued(text: &[u8], at: usize) -> bool
-    requires { at ≤ length text.now + 1 }
-    ensures { result ≡ continued (cards_of (drop at text.now)) }
+// Whether the first of these cards that is no comment, if there is one, continues the statement before it.
+pub fn is_continued(cards: Cards) -> bool
+    ensures { result ≡ continued (cards_of cards.entry.text.now) }
 {
-    let mut i = at;
-    while i < text.len() {
-        if !is_comment(&text[i..text.len()]) {
-            return card_continues(text, i);
+    let mut left = cards;
+    while let Some((card, behind)) = left.split_first() {
+        if !is_comment(card) {
+            return continues(card);
         }
-        let end = line_end(text, i);
-        i = end + 1;
+        left = behind;
     }
     false
 }
 
-// The next statement from card n on, which begins at a place of the text, with all its continuations.
-pub fn next_statement(text: &[u8], at: usize, n: u64) -> Taken
-    requires { (n ≤ at + 1) × Formed n (cards_of (drop at text.now)) }
-    ensures { Takes text.now at n result }
+// The statement that a card opens, with all its continuations, and the cards behind it.
+pub fn next_statement<'a>(first: Opener<'a>) -> (Stmt, Cards<'a>)
+    requires { Placed first }
+    ensures { Takes first.entry result.0 result.1 }
 {
-    let first = opening(text, at, n);
-    let start = first.at;
-    let number = first.n;
-    if text.len() <= start {
-        return Taken {
-            found: false,
-            stmt: nothing(),
-            at: start,
-            n: number,
-        };
-    }
-    let stop = line_end(text, start);
-    let mut stmt = with_card(nothing(), number, field(&text[start..stop]));
-    let mut i = stop + 1;
-    let mut k = number + 1;
-    while i < text.len() {
-        let end = line_end(text, i);
-        let kind = kind_of(&text[i..end]);
-        if ends(kind) {
-            return Taken {
-                found: true,
-                stmt: stmt,
-                at: i,
-                n: k,
-            };
+    let mut stmt = nothing();
+    append(&mut stmt, first.n, field(first.card));
+    let mut left = first.behind;
+    while let Some((card, behind)) = left.split_first() {
+        match kind_of(card) {
+            CardKind::Comment => {},
+            CardKind::Empty => return (stmt, left),
+            CardKind::Opening => return (stmt, left),
+            CardKind::Continuing => append(&mut stmt, left.n, field(card)),
         }
-        stmt = folded(stmt, kind, k, &text[i..end]);
-        i = end + 1;
-        k += 1;
+        left = behind;
     }
-    Taken {
-        found: true,
-        stmt: stmt,
-        at: i,
-        n: k,
-    }
+    (stmt, left)
 }

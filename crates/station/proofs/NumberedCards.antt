@@ -11,8 +11,8 @@ use Rattle.lists.specs.Texts.{bytes}
 use Rattle.sets.specs.Sets.{has, inside}
 use Rattle.logic.specs.Expressions.{Expr, nodes, written, temporal}
 use Rattle.logic.specs.Decks.{Equation, Deck, base, total_nodes}
-use Rattle.decks.specs.declared.Answer.{Answer}
-use Rattle.decks.specs.declared.Answer.TheVariants.{BadByte, TooWide, BadStart, BadNumber, TooManyCards, NotDue, Outside, Temporal, TooDeep, ManyInitials, ManyEquations, ManyNodes}
+use Rattle.decks.specs.declared.Refusal.{Refusal}
+use Rattle.decks.specs.declared.Refusal.TheVariants.{BadByte, TooWide, BadStart, BadNumber, TooManyCards, NotDue, Outside, Temporal, TooDeep, ManyInitials, ManyEquations, ManyNodes}
 use Rattle.decks.specs.Answers.{Outcome, Got, Refused, refuse, afterwards}
 use Rattle.decks.specs.Readings.{Reading, Whole, Wrong, Deep, walk, complete}
 use Rattle.cards.specs.Card.{cards_of, last_card, card_columns, continuations, columns, every, is_blank, printable, Kind, Comment, Empty, Opening, Continuing, is_comment, kind_of, numbered, Open, Shut, Continued, opened, card_in_form, in_form}
@@ -71,7 +71,7 @@ gathered-few m n (c ∷ cs) x h k = go (kind_of c) (λ y l. gathered-few m (suc 
 
 -- ---- cards and statements
 
-option_numbered : {A B : Type 0} (o : Option B) (a : Answer) (f : B → Outcome A) → Names a → ((x : B) → Numbered (f x)) → Numbered {A = A} (elim o [ none ↦ Refused a | some x ↦ f x ])
+option_numbered : {A B : Type 0} (o : Option B) (a : Refusal) (f : B → Outcome A) → Names a → ((x : B) → Numbered (f x)) → Numbered {A = A} (elim o [ none ↦ Refused a | some x ↦ f x ])
 option_numbered none a f h k = h
 option_numbered (some x) a f h k = k x
 

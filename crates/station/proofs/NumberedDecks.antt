@@ -8,7 +8,7 @@ use lib.Count.{trailing_le}
 use Rattle.lists.specs.Lists.{Each}
 use Rattle.sets.specs.Sets.{without, lowest_of, width}
 use Rattle.logic.specs.Decks.{Deck}
-use Rattle.decks.specs.declared.Answer.TheVariants.{NoEquation}
+use Rattle.decks.specs.declared.Refusal.TheVariants.{NoEquation}
 use Rattle.decks.specs.Answers.{Outcome, Got}
 use Rattle.decks.specs.Readings.{walk, left_set, complete}
 use Rattle.checking.proofs.Numbered.{Numbered, refuse-numbered, behind-numbered}

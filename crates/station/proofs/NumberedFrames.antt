@@ -9,7 +9,7 @@ use Rattle.lists.specs.Lists.{stands, ended, unended}
 use Rattle.sets.specs.Sets.{has, inside}
 use Rattle.logic.specs.Expressions.{Expr, nodes, written, temporal}
 use Rattle.logic.specs.Decks.{Equation, Deck, base, total_nodes}
-use Rattle.decks.specs.declared.Answer.TheVariants.{Outside, Temporal, TooDeep, ManyInitials, ManyEquations, ManyNodes, BadFrame}
+use Rattle.decks.specs.declared.Refusal.TheVariants.{Outside, Temporal, TooDeep, ManyInitials, ManyEquations, ManyNodes, BadFrame}
 use Rattle.decks.specs.Answers.{Outcome, Got, Refused}
 use Rattle.decks.specs.Readings.{Reading, Whole, Wrong, Deep, walk, complete}
 use Rattle.frames.specs.Hex.{byte_of}

@@ -1,7 +1,7 @@
 -- What every public operation promises: number, text, place, what is returned, and every byte of the lent buffer, on refusals as on success (RULES 1.2 to 1.4).
 use Rattle.std.specs.Prelude.{◌≡◌, List, ℕ}
 use Rattle.decks.specs.declared.Reply.{Reply}
-use Rattle.decks.specs.Answers.{reply_of}
+use Rattle.decks.specs.Answers.{reply_to}
 use Rattle.frames.specs.Read.{read_deck}
 use Rattle.cards.specs.Read.{read_cards}
 use Rattle.claims.specs.Checked.{checked}
@@ -36,4 +36,4 @@ FindsCone text s r = r ≡ cone_reply (read_deck text) s
 
 -- Checking a claimed run against a deck, both as frames.
 abbrev pub ChecksClaim : List ℕ → List ℕ → Reply → Type 0
-ChecksClaim deck claim r = r ≡ reply_of (checked deck claim)
+ChecksClaim deck claim r = r ≡ reply_to (checked deck claim)

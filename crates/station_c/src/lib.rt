@@ -2,7 +2,7 @@
 #![tactic(auto)]
 
 ghost use Rattle.std.specs.Prelude.{◌≡◌};
-ghost use Rattle.decks.specs.Answers.{reply_of};
+ghost use Rattle.decks.specs.Answers.{reply_to};
 ghost use Rattle.frames.specs.Read.{read_deck};
 ghost use Rattle.cards.specs.Read.{read_cards};
 ghost use Rattle.claims.specs.Checked.{checked as claim_answer};
@@ -52,7 +52,7 @@ pub extern "C" fn micaplume_cone(deck: &[u8], set: u64, counts: &mut [u64; 2]) -
 // A claim checked against a deck, both frames.
 #[unsafe(no_mangle)]
 pub extern "C" fn micaplume_check<'a>(deck: &'a [u8], claim: &'a [u8]) -> u64
-    ensures { result ≡ packed_reply (reply_of (claim_answer deck.now claim.now)) }
+    ensures { result ≡ packed_reply (reply_to (claim_answer deck.now claim.now)) }
 {
     station::micaplume_check(deck, claim)
 }

@@ -1,14 +1,17 @@
 -- The marks that the equations leave, one after the other.
 use mathlib.Core.Path.{◌≡◌, refl, sym, ap, ap₂, ◌∙◌}
+use mathlib.Core.Logic.{◌⊎◌, inl, inr, by_cases}
 use mathlib.Core.Bool.{Bool, true, false}
 use mathlib.Core.List.{List, ◌∷◌}
 use Prim.Native.Nat.{ℕ, ◌+◌, ◌-◌, ◌/◌, ◌%◌, ◌^◌, ◌<◌, ◌≤◌, min, max}
 use native.Mathlib.Omega.{arith}
+use native.Mathlib.Decide.{dec_le}
 use lib.Dec.{eqb}
-use lib.ListN.{length, take, drop, get_or, drop_of_length-le}
+use lib.ListN.{length, take, drop, get_or, length-take, length-drop, drop_of_length-le}
 use lib.Seq.{ext_get_or}
 use lib.Pow.{pow_pos}
 use lib.Bits.{or_zero_r}
+use Rattle.std.proofs.lemmas.List.{drop_more, get_or-take}
 use Rattle.sets.specs.Sets.{bit, only, union, width}
 use Rattle.sets.proofs.Laws.{only_mod, union_assoc}
 use Rattle.logic.specs.Expressions.{Expr, Const, Var, One, Two, Not, Next, Future, Always, And, Or, Until, Weak, Plain, value}
@@ -73,6 +76,24 @@ module _ (ns : List ℕ) (i : ℕ) (states : List ℕ) (p : ℕ) (words mid : Li
 
 -- ---- all equations
 
+-- What stands first behind the first i numbers of a row.
+first_behind : (xs : List ℕ) (i x : ℕ) (rest : List ℕ) → drop i xs ≡ x ∷ rest → (i < length xs) × (x ≡ get_or xs i 0) × (rest ≡ drop (i + 1) xs)
+first_behind xs i x rest e =
+    let l : i < length xs = omega (arith, ap length e, length-drop i xs) in
+    let m = drop_more xs i 0 l in
+    (l, cc, cc)
+
+-- The numbers of equation i, the rows being walked in step.
+module _ (lefts ends : List ℕ) (n i left end : ℕ) (lefts_on ends_on : List ℕ) where
+  pub walked : drop i (take n lefts) ≡ left ∷ lefts_on
+      → drop i ends ≡ end ∷ ends_on
+      → (i < n) × (left ≡ get_or lefts i 0) × (end ≡ get_or ends i 0) × (lefts_on ≡ drop (i + 1) (take n lefts)) × (ends_on ≡ drop (i + 1) ends)
+  walked a b =
+      let s = first_behind (take n lefts) i left lefts_on a in
+      let t = first_behind ends i end ends_on b in
+      let h : i < n = omega (arith, s.0, length-take n lefts) in
+      (h, s.1 ∙ get_or-take n lefts i 0 h, t.1, s.2, t.2)
+
 taken_more : (q : Equation) (qs : List Equation) (s t u : ℕ) → q.left < width → union (marked (eqb (value s q.right) (bit t q.left)) q.left u) (taken qs s t) ≡ union u (taken (q ∷ qs) s t)
 unfolding taken marked
 taken_more q qs s t u l = go (eqb (value s q.right) (bit t q.left))
@@ -88,11 +109,19 @@ pub record Marking (lefts ends cs : List ℕ) (n : ℕ) (states : List ℕ) (p :
   pub rest : (qs : List Equation) → Given qs lefts ends cs n → (new : List ℕ) → All (taken_word (drop i qs) states p) marks new → All (taken_word qs states p) start new
 
 module _ (lefts ends cs : List ℕ) (n : ℕ) where
-  pub left_here : (i : ℕ) (qs : List Equation) → Given qs lefts ends cs n → i < n → i < length lefts
+  left_here : (i : ℕ) (qs : List Equation) → Given qs lefts ends cs n → i < n → i < length lefts
   left_here i qs g h = left-within qs lefts ends cs n i g.held h
 
-  pub end_here : (i : ℕ) (qs : List Equation) → Given qs lefts ends cs n → i < n → i < length ends
+  end_here : (i : ℕ) (qs : List Equation) → Given qs lefts ends cs n → i < n → i < length ends
   end_here i qs g h = end_within qs lefts ends cs n i g.held h
+
+  -- Where one of the rows is walked to its end, all equations are behind.
+  pub walked_over : (i : ℕ) (qs : List Equation) → Given qs lefts ends cs n → (length (drop i (take n lefts)) ≡ 0) ⊎ (length (drop i ends) ≡ 0) → n ≤ i
+  walked_over i qs g o = by_cases (dec_le n i) (λ h. h) (λ h. absurd (none (omega arith) o))
+    where
+      none : i < n → (length (drop i (take n lefts)) ≡ 0) ⊎ (length (drop i ends) ≡ 0) → ⊥
+      none h (inl e) = omega (arith, left_here i qs g h, length-drop i (take n lefts), length-take n lefts)
+      none h (inr e) = omega (arith, end_here i qs g h, length-drop i ends)
 
 module _ (lefts ends cs : List ℕ) (n : ℕ) (states : List ℕ) (p : ℕ) (start : List ℕ) where
   pub marking_starts : length start ≡ length states → Marking lefts ends cs n states p start start 0 0

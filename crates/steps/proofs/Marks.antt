@@ -1,98 +1,64 @@
 -- Marks of steps, one equation after the other.
 use mathlib.Core.Path.{◌≡◌, refl, sym, ap, ◌∙◌}
 use mathlib.Core.Logic.{by_cases}
-use mathlib.Core.Bool.{Bool, true, false, not}
-use mathlib.Core.List.{List}
-use Prim.Native.Nat.{ℕ, ◌+◌, ◌%◌, ◌^◌, ◌<◌, ◌≤◌}
+use mathlib.Core.List.{List, ◌++◌}
+use Prim.Native.Nat.{ℕ, ◌+◌, ◌-◌, ◌<◌}
 use native.Mathlib.Omega.{arith}
 use native.Mathlib.Decide.{ℕ_discrete}
 use lib.Dec.{eqb}
-use lib.ListN.{length, get_or, set}
-use Rattle.sets.specs.Sets.{bit, only, union, inside, width}
-use Rattle.evaluator.specs.Pending.{Done, following, tops}
-use Rattle.evaluator.proofs.Laws.{done_next, following_next, following_last}
-use Rattle.steps.specs.Steps.{marked, mark_word, FirstLacking}
+use lib.ListN.{length, get_or, set, take, drop, length-set, length-append, length-take, length-drop, get_or-append, get_or-eq_default}
+use lib.Seq.{get_or-set_same, get_or-set_other, get_or-append_right}
+use Rattle.std.proofs.lemmas.List.{get_or-take, get_or-drop}
+use Rattle.sets.specs.Sets.{bit}
+use Rattle.evaluator.specs.Pending.{Made, Done, following, tops}
+use Rattle.evaluator.proofs.Laws.{following_next, following_last}
+use Rattle.steps.specs.Steps.{marked, mark_word}
 
-pub agrees_is : (words states : List ℕ) (v k next t w : ℕ) → t ≡ bit (get_or states next 0) v → w ≡ get_or words k 0 → eqb (w % 2) t ≡ eqb (tops words k) (bit (get_or states next 0) v)
-agrees_is words states v k next t w q h = rw (h, q) refl
+-- The mark u of step k, where it leads to the state at place `to`.
+abbrev pub stepped : List ℕ → List ℕ → ℕ → ℕ → ℕ → ℕ → ℕ
+stepped words states v k to u = marked (eqb (tops words k) (bit (get_or states to 0) v)) v u
 
-pub marked_true : (b : Bool) (u v s r : ℕ) → b ≡ true → s ≡ only v % 2 ^ width → r ≡ union u s → r ≡ marked b v u
-unfolding marked
-marked_true b u v s r e q h = rw e (h ∙ ap (union u) q)
+-- All steps but the last lead to the state behind them, the last one to state p.
+module _
+    (words states : List ℕ) (p v : ℕ) (Step : ℕ → ℕ → ℕ → Type 0) (old front : List ℕ) (last x : ℕ)
+    (one : last + 1 ≡ length old)
+    (each : length old ≡ length states)
+    (made : Made Step (take last old) front)
+    (steps : (k r : ℕ) → k < last → Step k (get_or (take last old) k 0) r → r ≡ stepped words states v k (k + 1) (get_or (take last old) k 0))
+    (home : x ≡ stepped words states v last p (get_or (front ++ drop last old) last 0))
+  where
+    front_long : length front ≡ last
+    front_long = omega (arith, made.same, length-take {A = ℕ})
 
-pub marked_false : (b : Bool) (u v : ℕ) → b ≡ false → u ≡ marked b v u
-unfolding marked
-marked_false b u v e = rw e refl
+    all_long : length (front ++ drop last old) ≡ length old
+    all_long = omega (arith, front_long, length-append front (drop last old), length-drop last old)
 
-pub step_marked : (old after : List ℕ) (k v u r : ℕ) (b c : Bool) → b ≡ c → u ≡ get_or old k 0 → r ≡ marked b v u → after ≡ set old k r → after ≡ set old k (marked c v (get_or old k 0))
-step_marked old after k v u r b c e g q s = rw (s, q, e, g) refl
+    new_long : length (set (front ++ drop last old) last x) ≡ length old
+    new_long = length-set (front ++ drop last old) last x ∙ all_long
 
-module _ (words states old : List ℕ) (p v : ℕ) where
-  -- The mark that a step to the next state leaves.
-  abbrev stepped : List ℕ → ℕ → ℕ → ℕ
-  stepped new k next = marked (eqb (tops words k) (bit (get_or states next 0) v)) v (get_or new k 0)
+    last_marked : get_or (set (front ++ drop last old) last x) last 0 ≡ mark_word words states p v last (get_or old last 0)
+    unfolding mark_word
+    last_marked =
+        let z : last + (last - length front) ≡ last = omega (arith, front_long) in
+        let u : get_or (front ++ drop last old) last 0 ≡ get_or old last 0 =
+        get_or-append_right front (drop last old) last 0 (omega (arith, front_long)) ∙ get_or-drop last old (last - length front) 0 ∙ ap (λ (i : ℕ). get_or old i 0) z in
+        let w : following (length states) p last ≡ p = following_last (length states) p last (omega arith) in
+        get_or-set_same (front ++ drop last old) last x 0 (omega (arith, all_long)) ∙ home ∙ rw (u, w) refl
 
-  -- One step more, to the state behind it.
-  step_next : (new after : List ℕ) (k next : ℕ)
-      → Done (mark_word words states p v) k old new
-      → k < length new
-      → next ≡ following (length states) p k
-      → after ≡ set new k (stepped new k next)
-      → Done (mark_word words states p v) (k + 1) old after
-  unfolding mark_word
-  step_next new after k next d l e s =
-      done_next (mark_word words states p v) old new after k (get_or new k 0) (stepped new k next) d l refl
-      (ap (λ (x : ℕ). stepped new k x) e)
-      s
+    front_marked : (j : ℕ) → j < last → get_or (set (front ++ drop last old) last x) j 0 ≡ mark_word words states p v j (get_or old j 0)
+    unfolding mark_word
+    front_marked j k =
+        let w : j + 1 ≡ following (length states) p j = omega (arith, following_next (length states) p j) in
+        let t = steps j (get_or front j 0) k (made.each j (omega (arith, length-take {A = ℕ}))) in
+        get_or-set_other (front ++ drop last old) last j x 0 (λ e. omega arith)
+        ∙ get_or-append front (drop last old) 0 j (omega (arith, front_long))
+        ∙ t
+        ∙ rw (get_or-take last old j 0 k, w) refl
 
-  -- A step with a state behind it.
-  pub mark_on : (new after : List ℕ) (k : ℕ)
-      → Done (mark_word words states p v) k old new
-      → length old ≡ length states
-      → k + 1 < length new
-      → after ≡ set new k (marked (eqb (tops words k) (bit (get_or states (k + 1) 0) v)) v (get_or new k 0))
-      → Done (mark_word words states p v) (k + 1) old after
-  mark_on new after k d m l s =
-      let z : k + 1 ≡ following (length states) p k = omega (arith, following_next (length states) p k (omega (arith, d.same))) in
-      step_next new after k (k + 1) d (omega arith) z s
-
-  -- The last step, back to state p.
-  pub mark_last : (new after : List ℕ) (k h : ℕ)
-      → Done (mark_word words states p v) k old new
-      → length old ≡ length states
-      → k < length new
-      → length new ≤ k + 1
-      → h ≡ p
-      → after ≡ set new k (marked (eqb (tops words k) (bit (get_or states h 0) v)) v (get_or new k 0))
-      → Done (mark_word words states p v) (length old) old after
-  mark_last new after k h d m b l e s =
-      let z : k + 1 ≡ length old = omega (arith, d.same) in
-      let y : h ≡ following (length states) p k = omega (arith, following_last (length states) p k (omega (arith, d.same))) in
-      rw z at (step_next new after k h d b y s)
-
--- ---- the lowest step that lacks a variable
-
--- No step before k lacks one.
-abbrev pub Whole : ℕ → List ℕ → ℕ → Type 0
-Whole vars marks k = (j : ℕ) → j < k → inside vars (get_or marks j 0) ≡ true
-
-module _ (vars : ℕ) (marks : List ℕ) where
-  pub whole_none : Whole vars marks 0
-  whole_none j l = absurd (omega arith)
-
-  pub whole_next : (k u : ℕ) (b : Bool) → Whole vars marks k → u ≡ get_or marks k 0 → b ≡ inside vars u → not b ≡ false → Whole vars marks (k + 1)
-  whole_next k u b f e q n j l = by_cases (ℕ_discrete j k) (λ z. rw z (ap (inside vars) (sym e) ∙ sym q ∙ go b n)) (λ z. f j (omega arith))
-    where
-      go : (t : Bool) → not t ≡ false → t ≡ true
-      go true n = refl
-      go false n = sym n
-
-  pub lacking_met : (k u : ℕ) (b : Bool) → Whole vars marks k → k < length marks → u ≡ get_or marks k 0 → b ≡ inside vars u → not b ≡ true → FirstLacking vars marks k
-  lacking_met k u b f l e q n = record { within = omega arith; before = f; lacks = λ h. ap (inside vars) (sym e) ∙ sym q ∙ go b n }
-    where
-      go : (t : Bool) → not t ≡ true → t ≡ false
-      go true n = sym n
-      go false n = refl
-
-  pub lacking_none : (k : ℕ) → Whole vars marks k → k ≤ length marks → length marks ≤ k → FirstLacking vars marks k
-  lacking_none k f h l = record { within = h; before = f; lacks = λ t. absurd (omega arith) }
+    pub all_marked : Done (mark_word words states p v) (length old) old (set (front ++ drop last old) last x)
+    all_marked =
+        record {
+          same = new_long;
+          before = λ j _ k. by_cases (ℕ_discrete j last) (λ t. rw t last_marked) (λ n. front_marked j (omega arith));
+          behind = λ j k. get_or-eq_default (set (front ++ drop last old) last x) 0 (omega (arith, new_long)) ∙ sym (get_or-eq_default old 0 k);
+        }

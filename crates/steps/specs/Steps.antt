@@ -49,8 +49,12 @@ pub record Given (qs : List Equation) (lefts ends nodes : List ℕ) (n : ℕ) : 
 abbrev pub Zeros : List ℕ → Type 0
 Zeros ws = (i : ℕ) → get_or ws i 0 ≡ 0
 
--- r is the lowest step whose mark lacks a variable; the number of steps where there is none.
+-- No step's mark lacks a variable.
+abbrev pub NoneLacks : ℕ → List ℕ → Type 0
+NoneLacks vars marks = (k : ℕ) → k < length marks → inside vars (get_or marks k 0) ≡ true
+
+-- r is the lowest step whose mark lacks a variable.
 pub record FirstLacking (vars : ℕ) (marks : List ℕ) (r : ℕ) : Type 0 where
-  pub within : r ≤ length marks
+  pub within : r < length marks
   pub before : (k : ℕ) → k < r → inside vars (get_or marks k 0) ≡ true
-  pub lacks : r < length marks → inside vars (get_or marks r 0) ≡ false
+  pub lacks : inside vars (get_or marks r 0) ≡ false

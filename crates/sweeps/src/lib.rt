@@ -5,26 +5,11 @@ ghost use Rattle.std.specs.Prelude.{◌≡◌, ◌<◌, min, max, length};
 ghost use Rattle.evaluator.specs.Pending.{top, second, joined, All};
 ghost use Rattle.sweeps.specs.Swept.{settled, swept_word};
 
-// The topmost value, or the one below it and v.
-fn carried(w: u64, v: u64) -> u64
-    requires { v < 2 }
-    ensures { (result ≡ max (top w) (min (second w) v)) × (result < 2) }
+// What is carried from a state to the one before it: the topmost value there, or the one below it and v.
+fn carried(v: u64, w: u64) -> u64
+    ensures { result ≡ max (top w) (min (second w) (top v)) }
 {
-    if w % 2 == 1 {
-        return 1;
-    }
-    if w / 2 % 2 == 1 {
-        return v;
-    }
-    0
-}
-
-// The word with x for its two topmost values.
-fn join(w: u64, x: u64) -> u64
-    requires { x < 2 }
-    ensures { result ≡ joined w x }
-{
-    2 * (w / 4) + x
+    (w | w / 2 & v) % 2
 }
 
 // The value at state p, once round from the last state back, z behind it.
@@ -32,13 +17,7 @@ fn settle(words: &[u64], p: usize, z: u64) -> u64
     requires { (p < length words.now) × (z < 2) }
     ensures { (result ≡ settled p z words.now) × (result < 2) }
 {
-    let mut v = z;
-    let mut i = words.len();
-    while i != p {
-        i -= 1;
-        v = carried(evaluator::word_at(words, i), v);
-    }
-    v
+    words[p..].iter().rev().copied().fold(z, carried)
 }
 
 // The value at every state from the last one back, start behind it, for the two topmost.
@@ -47,13 +26,20 @@ fn sweep(words: &mut [u64], start: u64)
     ensures { All (swept_word start words.old) words.old words.new }
 {
     let mut v = start;
-    let mut i = words.len();
-    while i != 0 {
-        i -= 1;
-        let w = evaluator::word_at(words, i);
-        v = carried(w, v);
-        evaluator::put_word(words, i, join(w, v));
+    // By index: a proof learns nothing of the words that an iterator writes from the back.
+    for i in (0..words.len()).rev() {
+        v = carried(v, words[i]);
+        words[i] = 2 * (words[i] / 4) + v;
     }
+}
+
+// The value at every state, z standing behind the last one for ever: the first sweep settles it at state p, to which the run returns.
+fn sweep_twice(words: &mut [u64], p: usize, z: u64)
+    requires { (p < length words.old) × (z < 2) }
+    ensures { All (swept_word (settled p z words.old) words.old) words.old words.new }
+{
+    let v = settle(words, p, z);
+    sweep(words, v);
 }
 
 // `U` at every state: nothing has come behind the last.
@@ -61,9 +47,7 @@ pub fn until(words: &mut [u64], p: usize)
     requires { p < length words.old }
     ensures { All (swept_word (settled p 0 words.old) words.old) words.old words.new }
 {
-    let never = 0;
-    let v = settle(words, p, never);
-    sweep(words, v);
+    sweep_twice(words, p, 0);
 }
 
 // `W` at every state: the loop may go on for ever.
@@ -71,7 +55,5 @@ pub fn weak(words: &mut [u64], p: usize)
     requires { p < length words.old }
     ensures { All (swept_word (settled p 1 words.old) words.old) words.old words.new }
 {
-    let ever = 1;
-    let u = settle(words, p, ever);
-    sweep(words, u);
+    sweep_twice(words, p, 1);
 }

@@ -1,6 +1,8 @@
 -- How a pass over nodes begins, goes on by one node, and ends.
 use mathlib.Core.Path.{◌≡◌, refl, sym, ap, ap₂, ◌∙◌}
-use mathlib.Core.Bool.{Bool, true, false}
+use mathlib.Core.Bool.{Bool, true, false, ◌||◌}
+use mathlib.Core.Logic.{by_cases}
+use Rattle.std.specs.List.{list_any}
 use mathlib.Core.List.{List, [], ◌∷◌}
 use Prim.Native.Nat.{ℕ, suc, ◌+◌, ◌-◌, ◌%◌, ◌^◌, ◌<◌, ◌≤◌}
 use native.Mathlib.Omega.{arith}
@@ -10,12 +12,10 @@ use borrow.Author.Tests.{lt-ltb, le-ltb}
 use lib.Dec.{ltb}
 use lib.ListN.{length, drop, get_or, drop_of_length-le}
 use lib.Seq.{drop-cons}
-use lib.Bits.{or_zero_l, or_zero_r}
-use Rattle.lists.proofs.Laws.{part_next, part_off, part-done}
+use lib.Bits.{or_zero_r}
 use Rattle.sets.specs.Sets.{only, union, width}
 use Rattle.sets.proofs.Laws.{union_assoc, only_mod, only_mod_high}
 use Rattle.terms.specs.Nodes.{constant?, places_of, temporal?, spans, variable_of, variables_of, some_temporal}
-use Rattle.lists.specs.Lists.{part}
 
 -- ---- how many operands a node has
 
@@ -66,34 +66,13 @@ module _ (cs : List ℕ) (i : ℕ) where
 
 -- ---- tests of a node
 
-pub constant_low : (c : ℕ) → c < 256 → false ≡ constant? c
+pub constant_no : (c : ℕ) → (c ≡ 256 → ⊥) → (c ≡ 257 → ⊥) → false ≡ constant? c
 unfolding constant?
-constant_low c h = simp (lt-ltb c 256 h, constant?)
+constant_no c n m = by_cases (dec_lt c 256) (λ h. simp (lt-ltb c 256 h, constant?)) (λ k. let l : 256 ≤ c = omega arith in let h : 258 ≤ c = omega arith in simp (le-ltb c 256 l, le-ltb c 258 h, constant?))
 
-pub constant_high : (c : ℕ) → 256 ≤ c → ltb c 258 ≡ constant? c
+pub constant_yes : (c : ℕ) → 256 ≤ c → c < 258 → true ≡ constant? c
 unfolding constant?
-constant_high c h = simp (le-ltb c 256 h, constant?)
-
-module _ (c : ℕ) where
-  pub places_leaf : c < 258 → 0 ≡ places_of c
-  unfolding places_of
-  places_leaf h = simp (lt-ltb c 258 h, places_of)
-
-  pub places_not : 258 ≤ c → c < 259 → 1 ≡ places_of c
-  unfolding places_of
-  places_not l h = simp (le-ltb c 258 l, lt-ltb c 259 h, places_of)
-
-  pub places_join : 258 ≤ c → 259 ≤ c → c < 261 → 2 ≡ places_of c
-  unfolding places_of
-  places_join l m h = simp (le-ltb c 258 l, le-ltb c 259 m, lt-ltb c 261 h, places_of)
-
-  pub places_later : 258 ≤ c → 259 ≤ c → 261 ≤ c → c < 264 → 1 ≡ places_of c
-  unfolding places_of
-  places_later l m n h = simp (le-ltb c 258 l, le-ltb c 259 m, le-ltb c 261 n, lt-ltb c 264 h, places_of)
-
-  pub places_until : 258 ≤ c → 259 ≤ c → 261 ≤ c → 264 ≤ c → 2 ≡ places_of c
-  unfolding places_of
-  places_until l m n h = simp (le-ltb c 258 l, le-ltb c 259 m, le-ltb c 261 n, le-ltb c 264 h, places_of)
+constant_yes c l h = simp (le-ltb c 256 l, lt-ltb c 258 h, constant?)
 
 -- ---- variables written
 
@@ -112,46 +91,21 @@ only-variable c = go (dec_lt c 64)
     go (yes h) = only_mod 64 c h ∙ sym (variable_low c h)
     go (no h) = sym (only_mod_high 64 c (omega arith)) ∙ variable_high c (omega arith)
 
-module _ (cs : List ℕ) (i j all set : ℕ) where
-  pub written_start : variables_of cs ≡ union 0 (variables_of cs)
-  written_start = sym (or_zero_l (variables_of cs))
-
-  pub written_on : (n v u : ℕ)
-      → i < j
-      → i < length cs
-      → all ≡ union set (variables_of (part i j cs))
-      → n ≡ get_or cs i 0
-      → v ≡ only n % 2 ^ width
-      → u ≡ union set v
-      → all ≡ union u (variables_of (part (i + 1) j cs))
+module _ (cs : List ℕ) (i all set : ℕ) (e : all ≡ union set (variables_of (drop i cs))) where
+  pub written_on : (n v u : ℕ) → i < length cs → n ≡ get_or cs i 0 → v ≡ only n % 2 ^ width → u ≡ union set v → all ≡ union u (variables_of (drop (i + 1) cs))
   unfolding variables_of
-  written_on n v u h l e p q r =
+  written_on n v u h p q r =
       let w : v ≡ variable_of (get_or cs i 0) = q ∙ ap (λ (k : ℕ). only k % 2 ^ width) p ∙ only-variable (get_or cs i 0) in
-      e ∙ ap (λ (r : List ℕ). union set (variables_of r)) (part_next cs i j h l) ∙ rw (← w) (union_assoc set v (variables_of (part (i + 1) j cs))) ∙ ap (λ (k : ℕ). union k (variables_of (part (i + 1) j cs))) (sym r)
+      e ∙ ap (λ (l : List ℕ). union set (variables_of l)) (next_node cs i h) ∙ rw (← w) (union_assoc set v (variables_of (drop (i + 1) cs))) ∙ ap (λ (k : ℕ). union k (variables_of (drop (i + 1) cs))) (sym r)
 
-  pub written_off : length cs ≤ i → all ≡ union set (variables_of (part i j cs)) → set ≡ all
+  pub written_off : length cs ≤ i → set ≡ all
   unfolding variables_of
-  written_off h e = sym (or_zero_r set) ∙ sym (e ∙ ap (λ (r : List ℕ). union set (variables_of r)) (part_off cs i j h))
-
-  pub written-done : j ≤ i → all ≡ union set (variables_of (part i j cs)) → set ≡ all
-  unfolding variables_of
-  written-done h e = sym (or_zero_r set) ∙ sym (e ∙ ap (λ (r : List ℕ). union set (variables_of r)) (part-done cs i j h))
+  written_off h = sym (or_zero_r set) ∙ sym (e ∙ ap (λ (l : List ℕ). union set (variables_of l)) (drop_of_length-le cs {i = i} h))
 
 -- ---- the operators X F G U W
 
-module _ (cs : List ℕ) (i j : ℕ) (all : Bool) where
-  pub temporal_met : (t : Bool) → i < j → i < length cs → all ≡ some_temporal (part i j cs) → t ≡ temporal? (get_or cs i 0) → t ≡ true → true ≡ all
-  unfolding some_temporal
-  temporal_met t h l e q y = sym (e ∙ ap some_temporal (part_next cs i j h l) ∙ simp (← q, y, some_temporal))
-
-  pub temporal_on : (t : Bool) → i < j → i < length cs → all ≡ some_temporal (part i j cs) → t ≡ temporal? (get_or cs i 0) → t ≡ false → all ≡ some_temporal (part (i + 1) j cs)
-  unfolding some_temporal
-  temporal_on t h l e q y = e ∙ ap some_temporal (part_next cs i j h l) ∙ simp (← q, y, some_temporal)
-
-  pub temporal_off : length cs ≤ i → all ≡ some_temporal (part i j cs) → false ≡ all
-  unfolding some_temporal
-  temporal_off h e = sym (e ∙ ap some_temporal (part_off cs i j h))
-
-  pub temporal-done : j ≤ i → all ≡ some_temporal (part i j cs) → false ≡ all
-  unfolding some_temporal
-  temporal-done h e = sym (e ∙ ap some_temporal (part-done cs i j h))
+-- Whether one stands among the nodes, as the library's `any` says it.
+pub any_temporal : (cs : List ℕ) → list_any (λ c. temporal? c) cs ≡ some_temporal cs
+unfolding some_temporal
+any_temporal [] = refl
+any_temporal (c ∷ cs) = ap (λ b. temporal? c || b) (any_temporal cs)

@@ -1,13 +1,16 @@
 // Expressions in memory: nodes in prefix order.
 #![tactic(auto)]
 
-ghost use Rattle.std.specs.Prelude.{◌≡◌, ◌+◌, ◌<◌, max, eqb, length, drop};
+ghost use Rattle.std.specs.Prelude.{◌≡◌, ◌+◌, ◌<◌, eqb, length, drop};
 ghost use Rattle.logic.specs.Expressions.{Expr, levels as depth};
 ghost use Rattle.terms.specs.Nodes.{variable?, constant?, places_of, temporal?, spans, variables_of, some_temporal, Stands};
-ghost use Rattle.lists.specs.Lists.{part};
+ghost use Rattle.lists.specs.Lists.{part as its_part};
 ghost use Rattle.terms.specs.Reaches.{Reaches};
 
 use sets::{union, variable};
+
+// A node is a number and no value of an enum: the public reading operations promise the deck that they give number by number (`stored`),
+// and its nodes have a fixed place in memory, two bytes each.
 
 // A node below this number is the variable of that number.
 pub const VARIABLES_END: u16 = 256;
@@ -43,29 +46,21 @@ pub fn is_variable(node: u16) -> bool
 pub fn is_constant(node: u16) -> bool
     ensures { result ≡ constant? node }
 {
-    if node < VARIABLES_END {
-        return false;
-    }
-    node < NOT
+    matches!(node, ZERO | ONE)
 }
 
 // How many operands the node has.
+#[tactic(auto, unfolding(crate::specs::Nodes::places_of))]
 pub fn places(node: u16) -> usize
     ensures { result ≡ places_of node }
 {
-    if node < NOT {
-        return 0;
+    match node {
+        ..=ONE => 0,
+        NOT => 1,
+        AND | OR => 2,
+        NEXT..=ALWAYS => 1,
+        UNTIL.. => 2,
     }
-    if node < AND {
-        return 1;
-    }
-    if node < NEXT {
-        return 2;
-    }
-    if node < UNTIL {
-        return 1;
-    }
-    2
 }
 
 // Whether the node is `~`, `X`, `F` or `G`.
@@ -93,16 +88,14 @@ pub fn is_temporal(node: u16) -> bool
 pub fn end_of(nodes: &[u16], at: usize) -> usize
     ensures { result ≡ at + spans 1 (drop at nodes.now) }
 {
-    let mut pending = 1usize;
-    let mut i = at;
-    while i < nodes.len() {
+    let mut pending = 1;
+    for i in at..nodes.len() {
         if pending == 0 {
             return i;
         }
         pending = pending - 1 + places(nodes[i]);
-        i += 1;
     }
-    i
+    at.max(nodes.len())
 }
 
 // Where the second operand of the operator at `at` begins.
@@ -110,58 +103,33 @@ pub fn second(nodes: &[u16], at: usize) -> usize
     requires { at < length nodes.now }
     ensures { result ≡ at + 1 + spans 1 (drop (at + 1) nodes.now) }
 {
-    let first = at + 1;
-    end_of(nodes, first)
+    end_of(nodes, at + 1)
 }
 
-// The node as the number of a variable.
-fn number(node: u16) -> usize
-    ensures { result ≡ node }
+// The nodes from `at` up to `end`, as far as there are any.
+fn part(nodes: &[u16], at: usize, end: usize) -> &[u16]
+    ensures { result.now ≡ its_part at end nodes.now }
 {
-    node as usize
+    let to = end.min(nodes.len());
+    &nodes[at.min(to)..to]
 }
 
 // The set of the variables written from `at` up to `end`.
 pub fn written_in(nodes: &[u16], at: usize, end: usize) -> u64
-    ensures { result ≡ variables_of (part at end nodes.now) }
+    ensures { result ≡ variables_of (its_part at end nodes.now) }
 {
-    let mut set = 0u64;
-    let mut i = at;
-    while i < end {
-        if nodes.len() <= i {
-            return set;
-        }
-        set = union(set, variable(number(nodes[i])));
-        i += 1;
+    let mut set = 0;
+    for node in part(nodes, at, end) {
+        set = union(set, variable(usize::from(*node)));
     }
     set
 }
 
 // Whether one of `X F G U W` stands from `at` up to `end`.
 pub fn has_temporal(nodes: &[u16], at: usize, end: usize) -> bool
-    ensures { result ≡ some_temporal (part at end nodes.now) }
+    ensures { result ≡ some_temporal (its_part at end nodes.now) }
 {
-    let mut i = at;
-    while i < end {
-        if nodes.len() <= i {
-            return false;
-        }
-        if is_temporal(nodes[i]) {
-            return true;
-        }
-        i += 1;
-    }
-    false
-}
-
-// The larger of the two.
-fn larger(a: usize, b: usize) -> usize
-    ensures { result ≡ max a b }
-{
-    if a < b {
-        return b;
-    }
-    a
+    part(nodes, at, end).iter().any(|node| is_temporal(*node))
 }
 
 // Where an expression ends, and its deepest level.
@@ -193,7 +161,7 @@ pub fn reach_of(nodes: &[u16], at: usize) -> Reach
         };
     }
     let b = reach_of(nodes, a.end);
-    let most = larger(a.levels, b.levels);
+    let most = a.levels.max(b.levels);
     Reach {
         end: b.end,
         levels: most + 1,
@@ -204,6 +172,5 @@ pub fn reach_of(nodes: &[u16], at: usize) -> Reach
 pub fn levels_of(nodes: &[u16], at: usize) -> usize
     ensures { (e : Expr) → Stands nodes.now at e → result ≡ depth e }
 {
-    let r = reach_of(nodes, at);
-    r.levels
+    reach_of(nodes, at).levels
 }

@@ -25,13 +25,13 @@ use Rattle.truths.proofs.Operators.{all_as, not_worked, next_worked, future_work
 -- ---- constants and variables
 
 module _ (states : List ℕ) (node : ℕ) (old new : List ℕ) where
-  pub leaf_variable : (v : ℕ) → node < 256 → v ≡ node → All (variable_word states v) old new → Leaf states node old new
+  pub leaf_variable : (v : ℕ) → (node ≡ 256 → ⊥) → (node ≡ 257 → ⊥) → v ≡ node → All (variable_word states v) old new → Leaf states node old new
   unfolding variable_word truth_word truth
-  leaf_variable v l q d m (Const false) s n z h = absurd (omega arith)
-  leaf_variable v l q d m (Const true) s n z h = absurd (omega arith)
-  leaf_variable v l q d m (Var u) s n z h = all_as (variable_word states v) old new d (truth_word m (Var u)) (λ i l. rw (s, q, h) refl)
-  leaf_variable v l q d m (One o a) s n z h = absurd (omega arith)
-  leaf_variable v l q d m (Two o a b) s n z h = absurd (omega arith)
+  leaf_variable v x y q d m (Const false) s n z h = absurd (x h)
+  leaf_variable v x y q d m (Const true) s n z h = absurd (y h)
+  leaf_variable v x y q d m (Var u) s n z h = all_as (variable_word states v) old new d (truth_word m (Var u)) (λ i l. rw (s, q, h) refl)
+  leaf_variable v x y q d m (One o a) s n z h = absurd (omega arith)
+  leaf_variable v x y q d m (Two o a b) s n z h = absurd (omega arith)
 
   pub leaf_one : node ≡ 257 → All (λ i w. pushed w 1) old new → Leaf states node old new
   unfolding truth_word truth
@@ -41,13 +41,13 @@ module _ (states : List ℕ) (node : ℕ) (old new : List ℕ) where
   leaf_one q d m (One o a) s n z h = absurd (omega arith)
   leaf_one q d m (Two o a b) s n z h = absurd (omega arith)
 
-  pub leaf_zero : 256 ≤ node → (node ≡ 257 → ⊥) → All (λ i w. pushed w 0) old new → Leaf states node old new
+  pub leaf_zero : node ≡ 256 → All (λ i w. pushed w 0) old new → Leaf states node old new
   unfolding truth_word truth
-  leaf_zero l q d m (Const false) s n z h = all_as (λ i w. pushed w 0) old new d (truth_word m (Const false)) (λ i l. refl)
-  leaf_zero l q d m (Const true) s n z h = absurd (q h)
-  leaf_zero l q d m (Var u) s n z h = absurd (omega (arith, n, l, h))
-  leaf_zero l q d m (One o a) s n z h = absurd (omega arith)
-  leaf_zero l q d m (Two o a b) s n z h = absurd (omega arith)
+  leaf_zero q d m (Const false) s n z h = all_as (λ i w. pushed w 0) old new d (truth_word m (Const false)) (λ i l. refl)
+  leaf_zero q d m (Const true) s n z h = absurd (omega arith)
+  leaf_zero q d m (Var u) s n z h = absurd (omega (arith, n, q, h))
+  leaf_zero q d m (One o a) s n z h = absurd (omega arith)
+  leaf_zero q d m (Two o a b) s n z h = absurd (omega arith)
 
 -- ---- operators
 
@@ -209,15 +209,6 @@ module _ (ns : List ℕ) (i : ℕ) where
                 below_more (suc (64 - left)) 63 mid (omega (arith, levels-some a)) (worked_below (claim_of p states) a (64 - left) words mid r.room (f a (stands_operand ns i q a s)))
             go (Two q a b) s l = absurd (omega (arith, operands_are (Two q a b) s))
 
-        pub one_long : (mid : List ℕ) → o ≡ 1 → Evaluated ns (i + 1) states p words mid → p < length mid
-        one_long mid z f = go r.its r.stands
-          where
-            go : (e : Expr) → Stands ns i e → p < length mid
-            go (Const b) s = absurd (omega (arith, operands_are (Const b) s))
-            go (Var v) s = absurd (omega (arith, operands_are (Var v) s))
-            go (One q a) s = omega (arith, (f a (stands_operand ns i q a s)).same, r.all, r.loop)
-            go (Two q a b) s = absurd (omega (arith, operands_are (Two q a b) s))
-
         pub one_evaluated : (mid new : List ℕ) → o ≡ 1 → Evaluated ns (i + 1) states p words mid → Applied1 p node mid new → Evaluated ns i states p words new
         one_evaluated mid new z f g (Const b) s = absurd (omega (arith, operands_are (Const b) s))
         one_evaluated mid new z f g (Var v) s = absurd (omega (arith, operands_are (Var v) s))
@@ -265,15 +256,6 @@ module _ (ns : List ℕ) (i : ℕ) where
                   }
 
           module _ (last : List ℕ) (g : Evaluated ns other states p mid last) where
-            pub two_ready : p < length last
-            two_ready = go r.its r.stands
-              where
-                go : (e : Expr) → Stands ns i e → p < length last
-                go (Const b) s = absurd (x (operands_are (Const b) s))
-                go (Var v) s = absurd (x (operands_are (Var v) s))
-                go (One q a) s = absurd (y (operands_are (One q a) s))
-                go (Two q a b) s = omega (arith, (g b (second-stands q a b s)).same, (f a (stands-first ns i q a b s)).same, r.all, r.loop)
-
             pub two_evaluated : (new : List ℕ) → Applied2 p node last new → Evaluated ns i states p words new
             two_evaluated new h (Const b) s = absurd (x (operands_are (Const b) s))
             two_evaluated new h (Var v) s = absurd (x (operands_are (Var v) s))

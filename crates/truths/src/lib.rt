@@ -10,15 +10,11 @@ fn leaf(words: &mut [u64], states: &[u64], node: u16)
     requires { Below 63 words.old × (length words.old ≡ length states.now) }
     ensures { Leaf states.now node words.old words.new }
 {
-    if node < terms::VARIABLES_END {
-        evaluator::push_variable(words, states, decks::wide(node));
-        return;
+    match node {
+        terms::ZERO => evaluator::push(words, 0),
+        terms::ONE => evaluator::push(words, 1),
+        variable => evaluator::push_variable(words, states, usize::from(variable)),
     }
-    if node == terms::ONE {
-        evaluator::push(words, 1);
-        return;
-    }
-    evaluator::push(words, 0);
 }
 
 // `~`, `X`, `F` or `G`; `Fa` is `(1Ua)`, `Ga` is `(aW0)`.
@@ -26,21 +22,18 @@ fn apply_one(words: &mut [u64], p: usize, node: u16)
     requires { Below 63 words.old × (p < length words.old) }
     ensures { Applied1 p node words.old words.new }
 {
-    if node == terms::NOT {
-        evaluator::flip(words);
-        return;
+    match node {
+        terms::NOT => evaluator::flip(words),
+        terms::NEXT => evaluator::next(words, p),
+        terms::FUTURE => {
+            evaluator::lift(words);
+            sweeps::until(words, p);
+        }
+        _ => {
+            evaluator::push(words, 0);
+            sweeps::weak(words, p);
+        }
     }
-    if node == terms::NEXT {
-        evaluator::next(words, p);
-        return;
-    }
-    if node == terms::FUTURE {
-        evaluator::lift(words);
-        sweeps::until(words, p);
-        return;
-    }
-    evaluator::push(words, 0);
-    sweeps::weak(words, p);
 }
 
 // `&`, `+`, `U` or `W`.
@@ -48,26 +41,19 @@ fn apply_two(words: &mut [u64], p: usize, node: u16)
     requires { p < length words.old }
     ensures { Applied2 p node words.old words.new }
 {
-    if node == terms::AND {
-        evaluator::both(words);
-        return;
+    match node {
+        terms::AND => evaluator::both(words),
+        terms::OR => evaluator::either(words),
+        terms::UNTIL => sweeps::until(words, p),
+        _ => sweeps::weak(words, p),
     }
-    if node == terms::OR {
-        evaluator::either(words);
-        return;
-    }
-    if node == terms::UNTIL {
-        sweeps::until(words, p);
-        return;
-    }
-    sweeps::weak(words, p);
 }
 
 // The expression that begins at `at`, of no more levels than are left, at every state; and where it ends.
-pub fn evaluate<'a>(
-    nodes: &'a [u16],
+pub fn evaluate(
+    nodes: &[u16],
     at: usize,
-    states: &'a [u64],
+    states: &[u64],
     p: usize,
     words: &mut [u64],
     left: usize,
@@ -75,7 +61,7 @@ pub fn evaluate<'a>(
     requires { Ready nodes.now at states.now p words.old left }
     ensures { Ends nodes.now at result × Evaluated nodes.now at states.now p words.old words.new }
 {
-    let node = decks::number_at(nodes, at);
+    let node = nodes[at];
     let operands = terms::places(node);
     if operands == 0 {
         leaf(words, states, node);

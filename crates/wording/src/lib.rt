@@ -2,5 +2,5 @@
 // Only safety is promised here.
 #![tactic(auto)]
 
-pub mod put;
+pub mod page;
 pub mod words;

@@ -3,18 +3,20 @@ use mathlib.Core.Path.{◌≡◌, refl, sym, ap, ◌∙◌}
 use mathlib.Core.List.{List, [], ◌∷◌, ◌++◌, append_assoc, append-nil}
 use Prim.Native.Nat.{ℕ, zero, suc, ◌+◌, ◌-◌, ◌*◌, ◌/◌, ◌%◌, ◌^◌, ◌<◌, ◌≤◌}
 use native.Mathlib.Omega.{arith}
-use native.Mathlib.Nat.{mod-eq_of_lt}
-use lib.ListN.{length, take, get_or, set, length-append}
-use lib.Pow.{pow-add}
+use native.Mathlib.Nat.{zero-add, div-one}
+use native.Mathlib.Numerals.{add-one}
+use lib.ListN.{length, take, drop, get_or, length-append, drop_of_length-le}
+use lib.Seq.{take_all, drop-cons}
 use borrow.Rule.Slice.PartMut.{mid_of, put_mid}
 use borrow.Author.Tests.{lt-ltb, le-ltb}
-use Rattle.lists.specs.Lists.{splice, part}
-use Rattle.lists.proofs.Laws.{splice_nothing, splice-splice, splice-rest, part_next, part-done, length_part}
+use Rattle.std.specs.Int.{w64, byte_at, bytes_high_first, to_be_bytes}
+use Rattle.std.specs.List.{flat_map}
+use Rattle.lists.specs.Lists.{splice}
+use Rattle.lists.proofs.Laws.{splice-splice, splice-rest}
 use Rattle.frames.specs.Hex.{hex_digit, pair, pairs}
-use Rattle.frames.specs.Written.{code_byte, node_pairs, frame, state_frames}
+use Rattle.frames.specs.Written.{set_bytes, code_byte, node_pairs, frame, state_frames}
 use Rattle.frames.proofs.HexLaws.{length_pairs}
 use Rattle.frames.proofs.ExprLaws.{length_node_pairs}
-use Rattle.writing.specs.Parts.{Nodes}
 
 -- ---- one part written behind the other
 
@@ -43,9 +45,6 @@ pub record Wrote (whole rest : List ℕ) (used : ℕ) (out₀ out : List ℕ) : 
   pub used_is : used ≡ length front
   pub out_is : out ≡ splice 0 front out₀
 
-pub nothing_wrote : (whole out : List ℕ) → Wrote whole whole 0 out out
-nothing_wrote whole out = record { front = []; whole_is = refl; used_is = refl; out_is = sym (splice_nothing 0 out) }
-
 module _ (whole rest : List ℕ) (used : ℕ) (out₀ out : List ℕ) where
   -- The next part, written into what is free.
   pub wrote_part : (more ys : List ℕ) → Wrote whole (more ++ rest) used out₀ out → ys ≡ splice 0 more (mid_of used (length out - used) out)
@@ -64,115 +63,117 @@ module _ (whole rest : List ℕ) (used : ℕ) (out₀ out : List ℕ) where
   pub all_wrote : Wrote whole rest used out₀ out → rest ≡ [] → out ≡ splice 0 whole out₀
   all_wrote w e = w.out_is ∙ ap (λ (l : List ℕ). splice 0 l out₀) (sym (w.whole_is ∙ ap (λ (l : List ℕ). w.front ++ l) e ∙ append-nil w.front))
 
+-- ---- a text for each element
+
+-- Of the texts of the elements, each written by f, those before place i stand in the buffer, in used bytes from its start on.
+abbrev pub EachTo : (ℕ → List ℕ) → List ℕ → ℕ → ℕ → List ℕ → List ℕ → Type 0
+EachTo f xs i used out₀ out = Wrote (flat_map f xs) (flat_map f (drop i xs)) used out₀ out
+
+pub each_next : (f : ℕ → List ℕ) (w : ℕ) (xs : List ℕ) (i : ℕ) (out₀ out ys : List ℕ) → ((x : ℕ) → length (f x) ≡ w) → i < length xs
+    → EachTo f xs i (w * i) out₀ out → ys ≡ splice 0 (f (get_or xs i 0)) (mid_of (w * i) (length out - w * i) out)
+    → EachTo f xs (i + 1) (w * (i + 1)) out₀ (put_mid (w * i) (length out - w * i) out ys)
+each_next f w xs i out₀ out ys long h e r =
+    let more : List ℕ = f (get_or xs i 0) in
+    let next : flat_map f (drop i xs) ≡ more ++ flat_map f (drop (i + 1) xs) = ap (flat_map f) (drop-cons xs i 0 h ∙ ap (λ (k : ℕ). get_or xs i 0 ∷ drop k xs) (sym (add-one i))) in
+    let used : w * i + length more ≡ w * (i + 1) = omega (arith, long (get_or xs i 0)) in
+    rw (← used) (wrote_part (flat_map f xs) (flat_map f (drop (i + 1) xs)) (w * i) out₀ out more ys (rw next at e) r)
+
+pub each-done : (f : ℕ → List ℕ) (xs : List ℕ) (i used : ℕ) (out₀ out : List ℕ) → length xs ≤ i → EachTo f xs i used out₀ out → out ≡ splice 0 (flat_map f xs) out₀
+each-done f xs i used out₀ out h e = all_wrote (flat_map f xs) (flat_map f (drop i xs)) used out₀ out e (ap (flat_map f) (drop_of_length-le xs h))
+
 -- ---- bytes
 
 pub digit_low : (n : ℕ) → n < 10 → 48 + n ≡ hex_digit n
 unfolding hex_digit
 digit_low n h = simp (lt-ltb n 10 h, hex_digit)
 
-pub digit_high : (n : ℕ) → 10 ≤ n → 55 + n ≡ hex_digit n
+pub digit_high : (n : ℕ) → 10 ≤ n → 65 + (n - 10) ≡ hex_digit n
 unfolding hex_digit
-digit_high n h = let e : 55 + n ≡ 65 + (n - 10) = omega arith in e ∙ simp (le-ltb n 10 h, hex_digit)
-
-pub two_stores : (l : List ℕ) (x y : ℕ) → 2 ≤ length l → set (set l 0 x) 1 y ≡ splice 0 (x ∷ y ∷ []) l
-two_stores [] x y h = absurd (omega arith)
-two_stores (a ∷ []) x y h = absurd (omega arith)
-two_stores (a ∷ b ∷ l) x y h = refl
+digit_high n h = simp (le-ltb n 10 h, hex_digit)
 
 -- ---- numbers
 
-pub byte_power : (i : ℕ) → 256 ^ i ≡ 2 ^ (8 * i)
-byte_power zero = refl
-byte_power (suc i) =
-    let e : 8 * suc i ≡ 8 + 8 * i = omega arith in
-    omega (arith, byte_power i, ap (λ (k : ℕ). 2 ^ k) e, pow-add 2 8 (8 * i))
+-- The last k of eight bytes.
+abbrev pub last_bytes : ℕ → List ℕ → List ℕ
+last_bytes k bytes = take (8 - (8 - k)) (drop (8 - k) bytes)
 
-pub byte_shifted : (n i : ℕ) → n / 2 ^ (8 * i) % 256 ≡ n / 256 ^ i % 256
-byte_shifted n i = ap (λ (k : ℕ). n / k % 256) (sym (byte_power i))
+length_high_first : (k n : ℕ) → length (bytes_high_first k n) ≡ k
+length_high_first zero n = refl
+length_high_first (suc k) n = ap suc (length_high_first k n)
 
-pub pairs_next : (k n : ℕ) → (k ≡ 0 → ⊥) → pairs k n ≡ pair (n / 256 ^ (k - 1) % 256) ++ pairs (k - 1) n
+drop-high_first : (k j n : ℕ) → drop j (bytes_high_first (j + k) n) ≡ bytes_high_first k n
+drop-high_first k zero n = ap (λ (m : ℕ). bytes_high_first m n) (zero-add k)
+drop-high_first k (suc j) n =
+    let e : suc j + k ≡ suc (j + k) = omega arith in
+    ap (λ (m : ℕ). drop (suc j) (bytes_high_first m n)) e ∙ drop-high_first k j n
+
+last_bytes_are : (k n : ℕ) → k ≤ 8 → last_bytes k (bytes_high_first 8 n) ≡ bytes_high_first k n
+last_bytes_are k n h =
+    let all : 8 ≡ 8 - k + k = omega arith in
+    ap (λ (m : ℕ). last_bytes k (bytes_high_first m n)) all
+    ∙ ap (take (8 - (8 - k))) (drop-high_first k (8 - k) n)
+    ∙ take_all (8 - (8 - k)) (bytes_high_first k n) (omega (arith, length_high_first k n))
+
+byte_is : (i n : ℕ) → byte_at i n ≡ n / 256 ^ i % 256
+byte_is zero n = ap (λ (m : ℕ). m % 256) (sym (div-one n))
+byte_is (suc i) n = refl
+
+pairs_are : (k n : ℕ) → flat_map pair (bytes_high_first k n) ≡ pairs k n
 unfolding pairs
-pairs_next zero n h = absurd (h refl)
-pairs_next (suc k) n h = let e : k ≡ suc k - 1 = omega arith in ap (λ (j : ℕ). pair (n / 256 ^ j % 256) ++ pairs j n) e
+pairs_are zero n = refl
+pairs_are (suc k) n = ap (λ (b : ℕ). pair b ++ flat_map pair (bytes_high_first k n)) (byte_is k n) ∙ ap (λ (l : List ℕ). pair (n / 256 ^ k % 256) ++ l) (pairs_are k n)
 
--- What is written of a number before its left lowest bytes.
-abbrev pub NumberTo : ℕ → ℕ → ℕ → ℕ → List ℕ → List ℕ → Type 0
-NumberTo k n left used out₀ out = Wrote (pairs k n) (pairs left n) used out₀ out
-
-pub number_next : (k n left used b : ℕ) (out₀ out ys : List ℕ) → (left ≡ 0 → ⊥) → NumberTo k n left used out₀ out
-    → b ≡ n / 256 ^ (left - 1) % 256 → ys ≡ splice 0 (pair b) (mid_of used (length out - used) out)
-    → NumberTo k n (left - 1) (used + 2) out₀ (put_mid used (length out - used) out ys)
-number_next k n left used b out₀ out ys h w e f =
-    wrote_part (pairs k n) (pairs (left - 1) n) used out₀ out (pair b) ys (rw (pairs_next left n h, ← e) at w) f
-
-pub number-done : (k n left used : ℕ) (out₀ out : List ℕ) → NumberTo k n left used out₀ out → left ≡ 0 → out ≡ splice 0 (pairs k n) out₀
-unfolding pairs
-number-done k n left used out₀ out w e = all_wrote (pairs k n) (pairs left n) used out₀ out w (ap (λ (j : ℕ). pairs j n) e)
+pub number-done : (k n i used : ℕ) (bytes out₀ out : List ℕ) → k ≤ 8 → bytes ≡ to_be_bytes w64 n → length (last_bytes k bytes) ≤ i → EachTo pair (last_bytes k bytes) i used out₀ out
+    → out ≡ splice 0 (pairs k n) out₀
+number-done k n i used bytes out₀ out h b d e =
+    each-done pair (last_bytes k bytes) i used out₀ out d e
+    ∙ ap (λ (l : List ℕ). splice 0 l out₀) (ap (λ (l : List ℕ). flat_map pair (last_bytes k l)) b ∙ ap (flat_map pair) (last_bytes_are k n h) ∙ pairs_are k n)
 
 pub number-frame : (kind k n : ℕ) (out₀ x y z : List ℕ) → x ≡ splice 0 (pair kind) out₀ → y ≡ splice 0 (pairs k n) (mid_of 2 (length x - 2) x)
     → z ≡ splice 0 (10 ∷ []) (mid_of (2 * k + 2) (length (put_mid 2 (length x - 2) x y) - (2 * k + 2)) (put_mid 2 (length x - 2) x y))
     → put_mid (2 * k + 2) (length (put_mid 2 (length x - 2) x y) - (2 * k + 2)) (put_mid 2 (length x - 2) x y) z ≡ splice 0 (frame kind (pairs k n)) out₀
 number-frame kind k n out₀ x y z ex ey ez = three_parts 2 (2 * k + 2) (pair kind) (pairs k n) (10 ∷ []) out₀ x y z ex refl ey (omega (arith, length_pairs k n)) ez
 
--- ---- rows of states
+-- ---- states
 
--- What is written of the first states of a row before state i.
-abbrev pub StatesTo : ℕ → List ℕ → ℕ → ℕ → ℕ → List ℕ → List ℕ → Type 0
-StatesTo kind states count i used out₀ out = Wrote (state_frames kind (part 0 count states)) (state_frames kind (part i count states)) used out₀ out
+-- The frame of a state.
+abbrev pub state_frame : ℕ → ℕ → List ℕ
+state_frame kind s = frame kind (pairs set_bytes s)
 
-pub states_next : (kind : ℕ) (states : List ℕ) (count i used r : ℕ) (out₀ out ys : List ℕ) → i < count → count ≤ length states → StatesTo kind states count i used out₀ out
-    → r ≡ 2 * 8 + 3 → ys ≡ splice 0 (frame kind (pairs 8 (get_or states i 0))) (mid_of used (length out - used) out)
-    → StatesTo kind states count (i + 1) (used + r) out₀ (put_mid used (length out - used) out ys)
+pub length_state_frame : (kind s : ℕ) → length (state_frame kind s) ≡ 19
+length_state_frame kind s = omega (arith, length-append (pairs 8 s) (10 ∷ []), length_pairs 8 s)
+
+pub states_are : (kind : ℕ) (states : List ℕ) → flat_map (state_frame kind) states ≡ state_frames kind states
 unfolding state_frames
-states_next kind states count i used r out₀ out ys h k w e f =
-    let one : List ℕ = frame kind (pairs 8 (get_or states i 0)) in
-    let rest : List ℕ = state_frames kind (part (i + 1) count states) in
-    let long : length one ≡ r = omega (arith, length-append (pairs 8 (get_or states i 0)) (10 ∷ []), length_pairs 8 (get_or states i 0)) in
-    rw (← long) (wrote_part (state_frames kind (part 0 count states)) rest used out₀ out one ys (rw (part_next states i count h (omega arith)) at w) f)
+states_are kind [] = refl
+states_are kind (s ∷ ss) = ap (λ (l : List ℕ). state_frame kind s ++ l) (states_are kind ss)
 
-pub states-done : (kind : ℕ) (states : List ℕ) (count i used : ℕ) (out₀ out : List ℕ) → count ≤ i → StatesTo kind states count i used out₀ out
-    → out ≡ splice 0 (state_frames kind (take count states)) out₀
-unfolding state_frames
-states-done kind states count i used out₀ out h w =
-    let e : count - 0 ≡ count = omega arith in
-    all_wrote _ _ used out₀ out w (ap (state_frames kind) (part-done states i count h)) ∙ ap (λ (j : ℕ). splice 0 (state_frames kind (take j states)) out₀) e
+pub states-done : (kind : ℕ) (states : List ℕ) (i used : ℕ) (out₀ out : List ℕ) → length states ≤ i → EachTo (state_frame kind) states i used out₀ out → out ≡ splice 0 (state_frames kind states) out₀
+states-done kind states i used out₀ out h e = each-done (state_frame kind) states i used out₀ out h e ∙ ap (λ (l : List ℕ). splice 0 l out₀) (states_are kind states)
 
 -- ---- nodes
 
-pub code_low : (n : ℕ) → n < 256 → n % 256 ≡ code_byte n
+pub code_low : (n : ℕ) → n < 256 → n ≡ code_byte n
 unfolding code_byte
-code_low n h = mod-eq_of_lt h ∙ simp (lt-ltb n 256 h, code_byte)
+code_low n h = simp (lt-ltb n 256 h, code_byte)
 
-pub code_high : (n : ℕ) → 256 ≤ n → n < 266 → (n - 192) % 256 ≡ code_byte n
+pub code_high : (n : ℕ) → 256 ≤ n → n - 256 + 64 ≡ code_byte n
 unfolding code_byte
-code_high n h k = let e : (n - 192) % 256 ≡ n - 256 + 64 = omega arith in e ∙ simp (le-ltb n 256 h, code_byte)
+code_high n h = simp (le-ltb n 256 h, code_byte)
 
--- What is written of the nodes from..to before node i.
-abbrev pub NodesTo : List ℕ → ℕ → ℕ → ℕ → ℕ → List ℕ → List ℕ → Type 0
-NodesTo nodes from to i used out₀ out = Wrote (node_pairs (part from to nodes)) (node_pairs (part i to nodes)) used out₀ out
+-- The pair of a node's code.
+abbrev pub node_pair : ℕ → List ℕ
+node_pair n = pair (code_byte n)
 
-pub codes-first : (nodes : List ℕ) (i to : ℕ) → i < to → to ≤ length nodes → Nodes (part i to nodes) → get_or nodes i 0 < 266
-codes-first nodes i to h k ps = (rw (part_next nodes i to h (omega arith)) at ps).0
-
-pub codes_next : (nodes : List ℕ) (i to : ℕ) → i < to → to ≤ length nodes → Nodes (part i to nodes) → Nodes (part (i + 1) to nodes)
-codes_next nodes i to h k ps = (rw (part_next nodes i to h (omega arith)) at ps).1
-
-pub nodes_next : (nodes : List ℕ) (from to i used b : ℕ) (out₀ out ys : List ℕ) → i < to → to ≤ length nodes → NodesTo nodes from to i used out₀ out
-    → b ≡ code_byte (get_or nodes i 0) → ys ≡ splice 0 (pair b) (mid_of used (length out - used) out)
-    → NodesTo nodes from to (i + 1) (used + 2) out₀ (put_mid used (length out - used) out ys)
+pub nodes_are : (nodes : List ℕ) → flat_map node_pair nodes ≡ node_pairs nodes
 unfolding node_pairs
-nodes_next nodes from to i used b out₀ out ys h k w e f =
-    wrote_part (node_pairs (part from to nodes)) (node_pairs (part (i + 1) to nodes)) used out₀ out (pair b) ys
-    (rw (part_next nodes i to h (omega arith), ← e) at w) f
+nodes_are [] = refl
+nodes_are (n ∷ ns) = ap (λ (l : List ℕ). node_pair n ++ l) (nodes_are ns)
 
-pub nodes-done : (nodes : List ℕ) (from to i used : ℕ) (out₀ out : List ℕ) → to ≤ i → NodesTo nodes from to i used out₀ out
-    → out ≡ splice 0 (node_pairs (part from to nodes)) out₀
-unfolding node_pairs
-nodes-done nodes from to i used out₀ out h w = all_wrote _ _ used out₀ out w (ap node_pairs (part-done nodes i to h))
+pub nodes-done : (nodes : List ℕ) (i used : ℕ) (out₀ out : List ℕ) → length nodes ≤ i → EachTo node_pair nodes i used out₀ out → out ≡ splice 0 (node_pairs nodes) out₀
+nodes-done nodes i used out₀ out h e = each-done node_pair nodes i used out₀ out h e ∙ ap (λ (l : List ℕ). splice 0 l out₀) (nodes_are nodes)
 
-pub nodes_line : (nodes : List ℕ) (from to : ℕ) (out₀ x y : List ℕ) → to ≤ length nodes → x ≡ splice 0 (node_pairs (part from to nodes)) out₀
-    → y ≡ splice 0 (10 ∷ []) (mid_of (2 * (to - from)) (length x - 2 * (to - from)) x)
-    → put_mid (2 * (to - from)) (length x - 2 * (to - from)) x y ≡ splice 0 (node_pairs (part from to nodes) ++ (10 ∷ [])) out₀
-nodes_line nodes from to out₀ x y h ex ey =
-    splice-behind (2 * (to - from)) (node_pairs (part from to nodes)) (10 ∷ []) out₀ x y ex
-    (omega (arith, length_node_pairs (part from to nodes), length_part nodes from to h)) ey
+pub nodes_line : (nodes out₀ x y : List ℕ) → x ≡ splice 0 (node_pairs nodes) out₀ → y ≡ splice 0 (10 ∷ []) (mid_of (2 * length nodes) (length x - 2 * length nodes) x)
+    → put_mid (2 * length nodes) (length x - 2 * length nodes) x y ≡ splice 0 (node_pairs nodes ++ (10 ∷ [])) out₀
+nodes_line nodes out₀ x y ex ey =
+    splice-behind (2 * length nodes) (node_pairs nodes) (10 ∷ []) out₀ x y ex (omega (arith, length_node_pairs nodes)) ey

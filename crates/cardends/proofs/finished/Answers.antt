@@ -1,15 +1,14 @@
-use borrow.Author.Rules.{rules}
 use Rattle.cardends.proofs.FinishLaws as laws
 use Rattle.cardends.proofs.finished.Goals as goal
 
 pub first_vars-vars-requires : goal.first_vars-vars-requires
-first_vars-vars-requires c = laws.vars-few _ _ _ _ _ _ c.requires
+first_vars-vars-requires c = laws.vars-few _ _ c.requires
 
 pub left_set-requires : goal.left_set-requires
-left_set-requires c = laws.lefts_there _ _ _ _ _ _ c.requires
+left_set-requires c = laws.equations_few _ _ c.requires
 
 pub returns-then-missing-ne0 : goal.returns-then-missing-ne0
-returns-then-missing-ne0 c = laws.lacks_one _ _ _ _ _ _ _ _ _ c.first_vars-vars.ensures c.left_set.ensures c.without-missing.ensures _ _ c.if-missing-ne0.true c.lowest.ensures c.refused.ensures
+returns-then-missing-ne0 c = laws.lacks_one _ _ _ _ _ c.first_vars-vars.ensures c.left_set.ensures c.without-missing.ensures _ _ c.if-missing-ne0.true c.lowest.ensures
 
 pub returns : goal.returns
-returns c = search (rules, laws.lacks_none)
+returns c = laws.lacks_none _ _ _ _ _ c.first_vars-vars.ensures c.left_set.ensures c.without-missing.ensures c.if-missing-ne0.false

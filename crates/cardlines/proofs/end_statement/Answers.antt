@@ -1,12 +1,12 @@
-use borrow.Author.Rules.{rules}
+use Rattle.std.proofs.Common.{rules}
 use Rattle.cardlines.proofs.Laws as laws
 use Rattle.cardlines.proofs.end_statement.Goals as goal
 
-pub returns-then-not-w : goal.returns-then-not-w
-returns-then-not-w c = search (rules, laws.refused_small, laws.end_word)
+pub returns-in_err-at : goal.returns-in_err-at
+returns-in_err-at c = search (rules, laws.end_word)
 
-pub returns-then-not-at_end : goal.returns-then-not-at_end
-returns-then-not-at_end c = search (rules, laws.refused_small, laws.end_wrong)
+pub returns-then-is_some : goal.returns-then-is_some
+returns-then-is_some c = search (rules, laws.end_wrong)
 
 pub returns : goal.returns
-returns c = search (rules, laws.end_small, laws.end_fine)
+returns c = search (rules, laws.end_fine)

@@ -1,19 +1,18 @@
-use borrow.Author.Rules.{rules}
-use Rattle.cardlines.proofs.Laws as laws
-use Rattle.cardlines.proofs.Equations as equations
+use Rattle.std.proofs.Common.{rules}
+use Rattle.cardlines.proofs.Equations as laws
 use Rattle.cardlines.proofs.equation_statement.Goals as goal
 
-pub returns-then-not-v : goal.returns-then-not-v
-returns-then-not-v c = search (rules, laws.refused_small, equations.equation_number)
+pub returns-in_err-v-clause-came : goal.returns-in_err-v-clause-came
+returns-in_err-v-clause-came c = λ t C H. search (rules, laws.equation_number)
 
-pub returns-then-not-w : goal.returns-then-not-w
-returns-then-not-w c = search (rules, laws.refused_small, equations.equation_sign)
+pub returns-in_err-from-clause-came : goal.returns-in_err-from-clause-came
+returns-in_err-from-clause-came c = λ t C H. search (rules, laws.equation_sign)
 
-pub returns-then-not-e : goal.returns-then-not-e
-returns-then-not-e c = (search (rules, equations.scratch_long, c.requires), search (rules, laws.refused_small), λ s inits property H. search (rules, equations.equation_stopped))
+pub returns-in_err-used-clause-came : goal.returns-in_err-used-clause-came
+returns-in_err-used-clause-came c = λ t C H. search (rules, laws.equation_stopped)
 
-pub with_equation-requires : goal.with_equation-requires
-with_equation-requires c = (c.requires.4, equations.nodes-there _ _ c.args.scratch.now c.expression_read-e.new.scratch c.expression_read-e.ensures.0 c.expression_read-e.ensures.1 c.requires.2, equations.scratch_most c.args.scratch.now c.expression_read-e.new.scratch c.expression_read-e.ensures.0 c.requires.3, c.requires.5)
-
-pub returns : goal.returns
-returns c = (search (rules, equations.scratch_long, c.requires), search rules, λ s inits property H. equations.equation_with _ _ _ _ _ _ c.read_number-v.ensures _ _ _ _ _ _ H c.if-not-v.false _ c.read_word-w.ensures c.if-not-w.false _ _ c.expression_read-e.ensures.2 _ _ _ _ c.if-not-e.false c.with_equation.ensures.1)
+pub returns-clause-came : goal.returns-clause-came
+returns-clause-came c = λ t C H.
+    laws.equation_with c.args.chars.now c.args.at c.args.n t c.in_ok-v.v (search rules) c.in_ok-from.from (search rules)
+    c.args.scratch.now c.whole_expression.new.out c.in_ok-used.used (search rules) _ _
+    (λ x N S. c.add_equation.ensures.came t x C H N S)

@@ -1,15 +1,12 @@
-use borrow.Author.Rules.{rules}
+use Rattle.std.proofs.Common.{rules, arith}
 use Rattle.cardlines.proofs.Laws as laws
 use Rattle.cardlines.proofs.init_statement.Goals as goal
 
-pub returns-then-not-b : goal.returns-then-not-b
-returns-then-not-b c = search (rules, laws.refused_small, laws.init_number)
+pub returns-in_err-state-clause-came : goal.returns-in_err-state-clause-came
+returns-in_err-state-clause-came c = λ s H. search (rules, laws.init_number)
 
-pub returns-then-typed-gt-INITIALS : goal.returns-then-typed-gt-INITIALS
-returns-then-typed-gt-INITIALS c = search (rules, laws.refused_small, laws.init_many)
+pub returns-then-h-ge-INITIALS-clause-came : goal.returns-then-h-ge-INITIALS-clause-came
+returns-then-h-ge-INITIALS-clause-came c = λ s H. search (rules, laws.init_many)
 
-pub returns-then-stands_in : goal.returns-then-stands_in
-returns-then-stands_in c = search (rules, laws.init_small, laws.init_equal)
-
-pub returns : goal.returns
-returns c = search (rules, laws.init_small, laws.init_new)
+pub returns-clause-came : goal.returns-clause-came
+returns-clause-came c = λ s H. laws.init_fine _ _ _ _ _ s H _ (search rules) (omega arith) _ c.keep.ensures

@@ -1,16 +1,17 @@
-use borrow.Author.Rules.{rules}
-use Rattle.cardlines.proofs.Laws as laws
-use Rattle.cardlines.proofs.Equations as equations
+use Rattle.std.proofs.Common.{rules, arith}
+use Rattle.cardlines.proofs.Equations as laws
 use Rattle.cardlines.proofs.prop_statement.Goals as goal
 
-pub returns-then-not-e : goal.returns-then-not-e
-returns-then-not-e c = search (rules, laws.refused_small, equations.scratch_long, equations.prop_stopped)
+pub returns-in_err-used : goal.returns-in_err-used
+returns-in_err-used c = λ t C. search (rules, laws.prop_stopped)
 
-pub returns-then-not-e-2 : goal.returns-then-not-e-2
-returns-then-not-e-2 c = search (rules, laws.refused_small, equations.scratch_long, equations.prop_outside)
+pub returns-then-not-all_within : goal.returns-then-not-all_within
+returns-then-not-all_within c = λ t C. search (rules, laws.prop_outside)
 
-pub returns-then-e-gt-PROPERTY_NODES : goal.returns-then-e-gt-PROPERTY_NODES
-returns-then-e-gt-PROPERTY_NODES c = search (rules, laws.refused_small, equations.scratch_long, equations.prop_many)
+pub returns-then-used-gt-PROPERTY_NODES : goal.returns-then-used-gt-PROPERTY_NODES
+returns-then-used-gt-PROPERTY_NODES c = λ t C. search (rules, laws.prop_many)
 
 pub returns : goal.returns
-returns c = (search (rules, equations.scratch_long), search (rules, equations.prop_small), λ s inits lefts ends nodes H. search (rules, equations.prop_fine))
+returns c = λ t C.
+    laws.prop_fine c.args.chars.now c.args.at c.args.n c.args.count t C c.args.scratch.now c.whole_expression.new.out
+    c.in_ok-used.used (search rules) _ c.all_within.ensures (search rules) _ (omega arith) c.put_property.ensures

@@ -1,24 +1,29 @@
-use borrow.Author.Rules.{rules}
+use Rattle.std.proofs.lemmas.Result.{err_from_is_err_and}
+use Rattle.cardlines.proofs.Laws.{nothing_small}
 use Rattle.cardreading.proofs.WalkLaws as laws
 use Rattle.cardreading.proofs.all_statements.Goals as goal
 
-pub loop-p-init : goal.loop-p-init
-loop-p-init c = search (rules, laws.walked-begun, laws.begun-small)
+pub loop-opener-init : goal.loop-opener-init
+loop-opener-init c =
+    record {
+      formed = rw (c.of-left.ensures.first, c.of-left.ensures.text) c.requires.0;
+      small = rw (c.nothing-held.ensures, c.requires.1) nothing_small;
+      walked = laws.walked_begun _ c.of-left.result _ _ c.of-left.ensures.text c.of-left.ensures.first c.nothing-held.ensures c.requires.1;
+    }
 
-pub one_statement-r-requires : goal.one_statement-r-requires
-one_statement-r-requires c = search (rules, laws.rows-there)
+pub returns-in_err-next : goal.returns-in_err-next
+returns-in_err-next c =
+    let p = err_from_is_err_and c.from_residual.result c.from_residual.ensures.1 in
+    rw (p.1, p.2) (laws.walked_refused _ c.loop-opener.left _ _ c.loop-opener.invariant.walked c.in-Some.opener c.in-Some.ensures.0 _ c.in_err-next.ensures)
 
-pub returns-then-not-read : goal.returns-then-not-read
-returns-then-not-read c = laws.walked_refused _ _ _ _ _ _ _ _ _ _ _ _ _ _ c.loop-p.invariant.3 c.one_statement-r.ensures c.if-not-read.true
-
-pub loop-p-smaller : goal.loop-p-smaller
-loop-p-smaller c = laws.turn_less _ _ _ _ _ _ _ _ _ _ _ _ _ _ c.loop-p.invariant.3 c.one_statement-r.ensures _ c.loop-p-test.true c.opening-p-in-loop-p.ensures
-
-pub loop-p-preserved : goal.loop-p-preserved
-loop-p-preserved c =
-    let rows : laws.SameLengths c.args.inits.now c.args.scratch.now c.args.lefts.now c.args.ends.now c.args.nodes.now c.args.property.now c.one_statement-r.new.inits c.one_statement-r.new.scratch c.one_statement-r.new.lefts c.one_statement-r.new.ends c.one_statement-r.new.nodes c.one_statement-r.new.property
-    = search (rules, c.loop-p.invariant.2, c.one_statement-r.auto) in
-    (c.opening-p-in-loop-p.ensures.placed, c.one_statement-r.ensures.small, rows, laws.walked_on _ _ _ _ _ _ _ _ _ _ _ _ _ _ c.loop-p.invariant.3 c.one_statement-r.ensures _ c.if-not-read.false c.opening-p-in-loop-p.ensures)
+pub loop-opener-preserved : goal.loop-opener-preserved
+loop-opener-preserved c =
+    let step = c.in_ok-next.ensures in
+    record {
+      formed = step.formed;
+      small = step.small;
+      walked = laws.walked_on _ c.loop-opener.left _ _ c.loop-opener.invariant.walked c.in-Some.opener c.in-Some.ensures.0 _ c.in_ok-next.behind _ step;
+    }
 
 pub returns : goal.returns
-returns c = search (rules, laws.walked_end)
+returns c = laws.walked_end _ c.loop-opener.left _ _ c.loop-opener.invariant.walked c.in_default.ensures

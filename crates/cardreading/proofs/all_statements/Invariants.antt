@@ -1,13 +1,16 @@
-use Prim.Native.Nat.{◌-◌}
-use lib.ListN.{length}
-use Rattle.statements.specs.Hold.{Placed}
+use Rattle.std.proofs.Common.{length}
+use Rattle.cards.specs.Card.{cards_of}
+use Rattle.statements.specs.Hold.{Formed}
 use Rattle.cardlines.specs.Held.{Small}
 use Rattle.cardreading.proofs.WalkLaws as laws
 use Rattle.cardreading.proofs.all_statements.Given as goal
 
-abbrev pub invariant-loop-p : goal.invariant-loop-p
-invariant-loop-p l =
-    Placed l.text l.p × Small l.held × laws.SameLengths l.initial.inits l.initial.scratch l.initial.lefts l.initial.ends l.initial.nodes l.initial.property l.inits l.scratch l.lefts l.ends l.nodes l.property × laws.Walked l.text l.p l.held l.inits l.lefts l.ends l.nodes l.property
+abbrev pub invariant-loop-opener : goal.invariant-loop-opener
+invariant-loop-opener l = record {
+  formed : Formed l.left.n (cards_of l.left.text.now);
+  small : Small l.held l.deck;
+  walked : laws.Walked l.text l.left l.held l.deck;
+}
 
-abbrev pub decreases-loop-p : goal.decreases-loop-p
-decreases-loop-p l = length l.text - l.p.at
+abbrev pub decreases-loop-opener : goal.decreases-loop-opener
+decreases-loop-opener l = length l.left.text.now

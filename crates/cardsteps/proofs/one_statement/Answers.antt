@@ -1,22 +1,21 @@
-use native.Mathlib.Omega.{arith}
-use borrow.Author.Rules.{rules}
+use Rattle.std.proofs.Common.{arith}
+use Rattle.std.proofs.lemmas.Result.{err_from_is_err_and}
+use Rattle.statements.proofs.Laws.{field-short}
 use Rattle.cardsteps.proofs.StepLaws as laws
 use Rattle.cardsteps.proofs.one_statement.Goals as goal
 
-pub overflow_add-next : goal.overflow_add-next
-overflow_add-next c = omega (arith, c.requires.1.within c.requires.0)
+pub returns-then-is_continued : goal.returns-then-is_continued
+returns-then-is_continued c =
+    laws.continued_onward c.args.opener c.next_statement.result.0 c.next_statement.result.1 c.next_statement.ensures _ _ _ _ c.characters.ensures _ c.in_ok-next.ensures.small c.in_ok-next.ensures.came
 
-pub overflow_add-n : goal.overflow_add-n
-overflow_add-n c = omega (arith, c.requires.1.near, c.requires.0)
+pub statement_read-requires-2 : goal.statement_read-requires-2
+statement_read-requires-2 c = let short = field-short _ c.args.opener.card.now c.field-field.ensures in (omega (arith, short), c.requires.1)
 
-pub is_continued-requires : goal.is_continued-requires
-is_continued-requires c = search (rules, laws.next_near)
-
-pub slice_bounds-field-count : goal.slice_bounds-field-count
-slice_bounds-field-count c = search (rules, laws.rises)
-
-pub statement_read-read-requires : goal.statement_read-read-requires
-statement_read-read-requires c = laws.may_read_field _ _ c.requires.0 c.requires.1 _ c.field-field.ensures _ _ _ _ _ _ _ c.requires.3 c.requires.2
+pub returns-in_err-next-2 : goal.returns-in_err-next-2
+returns-in_err-next-2 c =
+    let p = err_from_is_err_and c.from_residual-in_err-next-2.result c.from_residual-in_err-next-2.ensures.1 in
+    rw (p.1, p.2) (laws.alone_stopped c.args.opener c.requires.0 _ c.is_continued.ensures c.if-is_continued.false _ _ c.statement_read-2.new.deck _ c.field-field.ensures _ c.in_err-next-2.ensures.came)
 
 pub returns : goal.returns
-returns c = laws.read_alone _ _ c.requires.0 c.requires.1 _ c.field-field.ensures _ _ _ _ _ _ _ _ _ _ _ _ _ c.is_continued.ensures c.if-is_continued.false c.statement_read-read.ensures.1 c.statement_read-read.ensures.2
+returns c =
+    laws.alone_onward c.args.opener c.requires.0 _ c.is_continued.ensures c.if-is_continued.false _ _ _ _ c.field-field.ensures _ c.in_ok-next-2.ensures.small c.in_ok-next-2.ensures.came

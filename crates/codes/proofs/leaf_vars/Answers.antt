@@ -5,5 +5,5 @@ use Rattle.codes.proofs.leaf_vars.Goals as goal
 pub returns-then-b-lt-CONSTANTS : goal.returns-then-b-lt-CONSTANTS
 returns-then-b-lt-CONSTANTS c = search (rules, steps.vars-variable)
 
-pub returns : goal.returns
-returns c = search (rules, steps.vars_none)
+pub returns-else-b-lt-CONSTANTS : goal.returns-else-b-lt-CONSTANTS
+returns-else-b-lt-CONSTANTS c = search (rules, steps.vars_none)

@@ -1,21 +1,21 @@
+use native.Mathlib.Omega.{arith}
 use Rattle.codes.proofs.Steps as steps
-use borrow.Author.Rules.{rules}
 use Rattle.codes.proofs.places.Goals as goal
 
 pub returns-then-b-lt-NOT : goal.returns-then-b-lt-NOT
-returns-then-b-lt-NOT c = search (rules, steps.places_leaf)
+returns-then-b-lt-NOT c = steps.places_leaf _ (omega arith)
 
 pub returns-then-b-lt-AND : goal.returns-then-b-lt-AND
-returns-then-b-lt-AND c = search (rules, steps.places_not)
+returns-then-b-lt-AND c = steps.places_not _ (omega arith)
 
 pub returns-then-b-lt-NEXT : goal.returns-then-b-lt-NEXT
-returns-then-b-lt-NEXT c = search (rules, steps.places_and)
+returns-then-b-lt-NEXT c = steps.places_and _ (omega arith) (omega arith)
 
 pub returns-then-b-lt-UNTIL : goal.returns-then-b-lt-UNTIL
-returns-then-b-lt-UNTIL c = search (rules, steps.places_next)
+returns-then-b-lt-UNTIL c = steps.places_next _ (omega arith) (omega arith)
 
 pub returns-then-b-lt-NO_CODE : goal.returns-then-b-lt-NO_CODE
-returns-then-b-lt-NO_CODE c = search (rules, steps.places_until)
+returns-then-b-lt-NO_CODE c = steps.places_until _ (omega arith) (omega arith)
 
-pub returns : goal.returns
-returns c = search (rules, steps.places_none)
+pub returns-else-b-lt-NO_CODE : goal.returns-else-b-lt-NO_CODE
+returns-else-b-lt-NO_CODE c = steps.places_none _ (omega arith)

@@ -2,11 +2,8 @@ use Rattle.cones.proofs.Reaching as laws
 use borrow.Author.Rules.{rules}
 use Rattle.cones.proofs.closing.Goals as goal
 
-pub loop-visited-init : goal.loop-visited-init
-loop-visited-init c = search (rules, laws.reaching_starts)
-
-pub depends_on-requires : goal.depends_on-requires
-depends_on-requires c = search (rules, laws.next_within)
+pub bounds-deps-v : goal.bounds-deps-v
+bounds-deps-v c = search (rules, laws.next_within)
 
 pub loop-visited-smaller : goal.loop-visited-smaller
 loop-visited-smaller c = search (rules, laws.reaching_less)

@@ -1,21 +1,27 @@
+use Rattle.std.proofs.Common.{take, ◌∙◌}
+use Rattle.std.proofs.lemmas.List.{length_push}
+use Rattle.std.proofs.lemmas.Slice.Zip.{zip_turn, zip_end}
 use Rattle.cones.proofs.Table as laws
 use borrow.Author.Rules.{rules}
 use Rattle.cones.proofs.dependencies.Goals as goal
 
-pub loop-i-init : goal.loop-i-init
-loop-i-init c = search (rules, laws.filling_starts)
+pub loop-left-init : goal.loop-left-init
+loop-left-init c = search (rules, laws.filling_starts)
 
-pub place_at-v-requires : goal.place_at-v-requires
-place_at-v-requires c = search (rules, laws.left_here)
+pub bounds-deps-v : goal.bounds-deps-v
+bounds-deps-v c =
+    let e = c.args.equations.now in
+    let t = laws.turn e.lefts e.ends e.count _ _ _ (zip_turn (take e.count e.lefts) (take e.count e.ends) c.loop-left.yielded c.into_iter-left-iterator.result c.loop-left.left-iterator c.next.new.self c.next.result (cc) (cc) c.loop-left.yielded_by _ c.in-Some.is c.next.ensures.steps) in
+    laws.left_place _ _ _ _ _ t.here c.requires.0.0 c.requires.0.1 _ _ _ c.loop-left.invariant (c.from-v.ensures ∙ t.left_is)
 
-pub place_at-end-requires : goal.place_at-end-requires
-place_at-end-requires c = search (rules, laws.end_here)
-
-pub add-requires : goal.add-requires
-add-requires c = search (rules, laws.left_place)
-
-pub loop-i-preserved : goal.loop-i-preserved
-loop-i-preserved c = search (rules, laws.filling_next)
+pub loop-left-preserved : goal.loop-left-preserved
+loop-left-preserved c =
+    let e = c.args.equations.now in
+    let t = laws.turn e.lefts e.ends e.count _ _ _ (zip_turn (take e.count e.lefts) (take e.count e.ends) c.loop-left.yielded c.into_iter-left-iterator.result c.loop-left.left-iterator c.next.new.self c.next.result (cc) (cc) c.loop-left.yielded_by _ c.in-Some.is c.next.ensures.steps) in
+    rw (length_push c.loop-left.yielded (c.in-Some.left, c.in-Some.end)) (laws.filling_next _ _ _ _ _ t.here _ _ _ _ _ _ c.loop-left.invariant (c.from-v.ensures ∙ t.left_is) (c.from-end.ensures ∙ t.end_is) c.written_in-more.ensures c.union.ensures)
 
 pub returns : goal.returns
-returns c = search (rules, laws.filling_ends)
+returns c qs g =
+    let e = c.args.equations.now in
+    let t = zip_end (take e.count e.lefts) (take e.count e.ends) c.loop-left.yielded c.into_iter-left-iterator.result c.loop-left.left-iterator c.next.new.self c.next.result (cc) (cc) c.loop-left.yielded_by c.in-None.is c.next.ensures.steps in
+    laws.filling_ends _ _ _ _ _ _ _ qs t c.loop-left.invariant g

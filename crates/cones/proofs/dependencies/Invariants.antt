@@ -1,9 +1,6 @@
-use Prim.Native.Nat.{◌-◌}
+use Rattle.std.proofs.Common.{length}
 use Rattle.cones.proofs.Table as laws
 use Rattle.cones.proofs.dependencies.Given as goal
 
-abbrev pub invariant-loop-i : goal.invariant-loop-i
-invariant-loop-i l = laws.Filling l.lefts l.ends l.nodes l.equations l.deps l.i l.at
-
-abbrev pub decreases-loop-i : goal.decreases-loop-i
-decreases-loop-i l = l.equations - l.i
+abbrev pub invariant-loop-left : goal.invariant-loop-left
+invariant-loop-left l = laws.Filling l.equations.lefts l.equations.ends l.equations.nodes l.equations.count l.deps (length l.yielded) l.at

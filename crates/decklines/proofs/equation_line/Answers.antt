@@ -1,22 +1,25 @@
-use Rattle.decklines.proofs.Laws as laws
 use native.Mathlib.Omega.{arith}
-use borrow.Author.Rules.{rules}
+use Rattle.std.proofs.lemmas.Result.{err_from_is_err_and}
+use Rattle.decklines.proofs.Laws as laws
 use Rattle.decklines.proofs.equation_line.Goals as goal
 
-pub returns-then-not-r : goal.returns-then-not-r
-returns-then-not-r c = (search rules, search rules, search rules, λ s i a. search (rules, laws.equation_stopped))
+pub returns-in_default-clause-came : goal.returns-in_default-clause-came
+returns-in_default-clause-came c = λ s i f k. laws.equation_none c.args.line.now _ 0 c.args.h s c.args.deck.now c.in_default.ensures _
 
-pub overflow_cast-held : goal.overflow_cast-held
-overflow_cast-held c = let h = laws.last_fits c.args.line.now c.args.h c.equation_read-r.result c.args.nodes.now c.equation_read-r.new.nodes c.equation_read-r.ensures.2 c.if-not-r.false in omega (arith, h)
+pub returns-then-from-ge-VARIABLES-clause-came : goal.returns-then-from-ge-VARIABLES-clause-came
+returns-then-from-ge-VARIABLES-clause-came c = λ s i f k. laws.equation_high c.args.line.now _ _ c.args.h s c.args.deck.now c.in-Some.ensures (omega arith) _
 
-pub put_node-requires : goal.put_node-requires
-put_node-requires c = laws.equation_place c.args.line.now c.args.h c.equation_read-r.result c.args.nodes.now c.equation_read-r.new.nodes c.args.lefts.now c.requires.2 c.equation_read-r.ensures.2 c.if-not-r.false
+pub returns-then-v-h-clause-came : goal.returns-then-v-h-clause-came
+returns-then-v-h-clause-came c = λ s i f k. laws.equation_falls c.args.line.now _ _ _ s c.args.deck.now c.in-Some.ensures i (omega arith) c.if-v-h.true _
 
-pub overflow_cast-held-2 : goal.overflow_cast-held-2
-overflow_cast-held-2 c = let h = laws.used-fits c.args.line.now c.args.h c.equation_read-r.result c.args.nodes.now c.equation_read-r.new.nodes c.equation_read-r.ensures.2 c.if-not-r.false in omega (arith, h)
+pub returns-in_err-e-clause-came : goal.returns-in_err-e-clause-came
+returns-in_err-e-clause-came c = let p = err_from_is_err_and c.from_residual.result c.from_residual.ensures.1 in rw (p.1, p.2) (λ s i f k. laws.equation_refused c.args.line.now _ _ _ s c.args.deck.now c.in-Some.ensures i (omega arith) c.if-v-h.false _ c.in_err-e.ensures.0 _)
 
-pub put_node-requires-2 : goal.put_node-requires-2
-put_node-requires-2 c = laws.equation_place c.args.line.now c.args.h c.equation_read-r.result c.args.nodes.now c.equation_read-r.new.nodes c.args.ends.now c.requires.3 c.equation_read-r.ensures.2 c.if-not-r.false
+pub returns-in_err-held-clause-came : goal.returns-in_err-held-clause-came
+returns-in_err-held-clause-came c = let p = err_from_is_err_and c.from_residual-in_err-held.result c.from_residual-in_err-held.ensures.1 in rw (p.1, p.2) (λ s i f k. laws.equation_judged_not c.args.line.now _ _ _ s c.args.deck.now c.in-Some.ensures i (omega arith) c.if-v-h.false _ c.in_ok-e.ensures.0 f k _ _ c.in_err-held.ensures.0)
 
-pub returns : goal.returns
-returns c = (laws.length-stored c.args.lefts.now c.put_node.new.nodes c.args.h.equations c.equation_read-r.result.held.last 256 c.put_node.ensures c.requires.2, laws.length-stored c.args.ends.now c.put_node-2.new.nodes c.args.h.equations c.equation_read-r.result.held.used 256 c.put_node-2.ensures c.requires.3, search rules, λ s i a. search (rules, laws.equation_stored))
+pub returns-clause-came : goal.returns-clause-came
+returns-clause-came c = λ s i f k. rw c.from-2.ensures (laws.equation_stored c.args.line.now _ _ _ s c.args.deck.now c.in-Some.ensures i (omega arith) c.if-v-h.false _ c.in_ok-e.ensures.0 f k _ _ c.in_ok-e.ensures.1.1 c.in_ok-held.ensures.0 (let h = c.in_ok-held.ensures.1 in record { few = h.few; most = h.most; used_is = h.used_is }))
+
+pub expression_line-requires : goal.expression_line-requires
+expression_line-requires c = (laws.variable-within c.args.line.now _ c.in-Some.ensures, omega arith)

@@ -1,15 +1,15 @@
+use native.Mathlib.Omega.{arith}
 use Rattle.decklines.proofs.Laws as laws
-use borrow.Author.Rules.{rules}
 use Rattle.decklines.proofs.expression_line.Goals as goal
 
-pub returns-then-e-eq-DEEP : goal.returns-then-e-eq-DEEP
-returns-then-e-eq-DEEP c = search (rules, laws.expression_deep, laws.expression_none, laws.expression_unkept)
+pub returns-in-Ok : goal.returns-in-Ok
+returns-in-Ok c = let h = c.in-Ok.ensures in (laws.expression_fine c.args.line.now c.args.at _ _ c.requires.0 h.0 c.if-e-line.true, (omega arith, h.1.2), h.3)
 
-pub returns-then-e-ne-WHOLE : goal.returns-then-e-ne-WHOLE
-returns-then-e-ne-WHOLE c = search (rules, laws.expression_wrong, laws.expression_none, laws.expression_unkept)
+pub returns-in-Err-Deep : goal.returns-in-Err-Deep
+returns-in-Err-Deep c = let h = c.in-Err-Deep.ensures in (laws.expression_deep c.args.line.now c.args.at _ _ (rw c.in-Err-Deep.field-0-is at h.0), tt, h.3)
 
-pub returns-then-e-line : goal.returns-then-e-line
-returns-then-e-line c = search (rules, laws.expression_behind, laws.expression_none, laws.expression_unkept)
+pub returns-in-Ok-2 : goal.returns-in-Ok-2
+returns-in-Ok-2 c = let h = c.in-Ok.ensures in (laws.expression_behind c.args.line.now c.args.at _ _ c.requires.0 h.0 c.if-e-line.false, tt, h.3)
 
-pub returns : goal.returns
-returns c = (search (rules, laws.expression_fine), search rules, search rules, λ f. search (rules, laws.expression_kept))
+pub returns-in-Err-Wrong : goal.returns-in-Err-Wrong
+returns-in-Err-Wrong c = let h = c.in-Err-Wrong.ensures in (laws.expression_wrong c.args.line.now c.args.at _ _ (rw c.in-Err-Wrong.field-0-is at h.0), tt, h.3)

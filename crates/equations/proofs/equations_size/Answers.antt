@@ -1,22 +1,20 @@
+use mathlib.Core.Path.{ap, ◌∙◌}
 use native.Mathlib.Omega.{arith}
-use borrow.Author.Rules.{rules}
+use Rattle.sets.specs.Sets.{has}
 use Rattle.equations.proofs.Laws as laws
 use Rattle.equations.proofs.equations_size.Goals as goal
-
-pub loop-i-init : goal.loop-i-init
-loop-i-init c = search (rules, laws.size_start)
-
-pub place_at-left-requires : goal.place_at-left-requires
-place_at-left-requires c = search (rules, laws.left_there)
-
-pub place_at-to-requires : goal.place_at-to-requires
-place_at-to-requires c = search (rules, laws.end_there)
-
-pub overflow_sub-to : goal.overflow_sub-to
-overflow_sub-to c = search (rules, laws.size-rises)
+use Rattle.equations.proofs.equations_size.Goals.{then-member, else-member}
 
 pub loop-i-preserved : goal.loop-i-preserved
-loop-i-preserved c = search (rules, laws.size_next)
+loop-i-preserved c =
+    let m = c.member.ensures ∙ ap (has c.args.vars) c.from.ensures in
+    elim c.if-member.branch [
+      | then-member w ↦ rw w.n-is (omega arith, laws.size_in _ c.args.equations.now _ _ c.loop-i.invariant.1 c.loop-i-test.true _ m _ _ w.if-member.true w.begin_of-from.ensures w.from-to.ensures)
+      | else-member w ↦ rw w.n-is (omega arith, laws.size_out _ c.args.equations.now _ _ c.loop-i.invariant.1 c.loop-i-test.true _ m w.if-member.false)
+    ]
+
+pub overflow_sub-n : goal.overflow_sub-n
+overflow_sub-n c = rw (c.begin_of-from.ensures, c.from-to.ensures) (laws.rises_somewhere c.args.equations.now _ c.requires.1 c.loop-i-test.true)
 
 pub returns : goal.returns
-returns c = (omega arith, λ qs ns h. search (rules, laws.size-done))
+returns c = (omega arith, laws.size-done _ c.args.equations.now _ _ c.loop-i.invariant.1 c.loop-i-test.false)

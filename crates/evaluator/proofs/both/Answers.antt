@@ -1,15 +1,6 @@
-use borrow.Author.Rules.{rules}
-use Rattle.evaluator.proofs.Laws as laws
+use Rattle.std.proofs.Common.{rules}
+use Rattle.evaluator.proofs.Laws.{all_made, both_lowest}
 use Rattle.evaluator.proofs.both.Goals as goal
 
-pub loop-i-init : goal.loop-i-init
-loop-i-init c = search (rules, laws.done_none)
-
-pub loop-i-preserved : goal.loop-i-preserved
-loop-i-preserved c = search (rules, laws.done_next)
-
-pub shape_of-words : goal.shape_of-words
-shape_of-words c = search (rules, laws.done_all)
-
 pub returns : goal.returns
-returns c = search (rules, laws.done_all)
+returns c = all_made _ _ _ _ c.each.ensures (search (rules, both_lowest))

@@ -1,16 +1,11 @@
-use borrow.Author.Rules.{rules}
+use Rattle.std.proofs.Common.{arith, ◌≡◌, ◌-◌, length}
 use Rattle.evaluator.proofs.Laws as laws
 use Rattle.evaluator.proofs.next.Goals as goal
 
-pub loop-i-init : goal.loop-i-init
-loop-i-init c = search (rules, laws.done_none)
-
-pub shape_of-words : goal.shape_of-words
-shape_of-words c = search (rules, laws.next_last)
+pub loop-i-preserved : goal.loop-i-preserved
+loop-i-preserved c = laws.next_on _ _ _ _ c.loop-i.invariant (omega arith)
 
 pub returns : goal.returns
-returns c = search (rules, laws.next_last)
-
-pub loop-i-preserved : goal.loop-i-preserved
-loop-i-preserved c =
-    (search rules, search rules, laws.next_on _ _ c.loop-i.words _ _ _ c.loop-i.invariant.2 c.loop-i-test.true c.word_at.ensures c.put_top.ensures)
+returns c =
+    let e : c.loop-i.i ≡ length c.args.words.now - 1 = omega arith in
+    laws.next_last _ _ _ _ (rw e at c.loop-i.invariant) (omega arith)

@@ -1,18 +1,6 @@
-use borrow.Author.Rules.{rules}
-use Rattle.evaluator.proofs.Laws as laws
+use Rattle.std.proofs.Common.{rules}
+use Rattle.evaluator.proofs.Laws.{all_made}
 use Rattle.evaluator.proofs.push.Goals as goal
 
-pub loop-i-init : goal.loop-i-init
-loop-i-init c = search (rules, laws.done_none)
-
-pub push_value-requires : goal.push_value-requires
-push_value-requires c = search (rules, laws.done_below)
-
-pub loop-i-preserved : goal.loop-i-preserved
-loop-i-preserved c = search (rules, laws.done_next)
-
-pub shape_of-words : goal.shape_of-words
-shape_of-words c = search (rules, laws.done_all)
-
 pub returns : goal.returns
-returns c = search (rules, laws.done_all)
+returns c = all_made _ _ _ _ c.each.ensures (search rules)

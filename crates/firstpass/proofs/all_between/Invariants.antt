@@ -1,6 +1,4 @@
-use mathlib.Core.Path.{◌≡◌}
-use Prim.Native.Nat.{◌-◌, ◌≤◌}
-use lib.ListN.{length, drop}
+use Rattle.std.proofs.Common.{◌≡◌, ◌-◌, ◌≤◌, length, drop}
 use Rattle.cards.specs.Card.{every}
 use Rattle.firstpass.specs.Passed.{between}
 use Rattle.firstpass.proofs.all_between.Given as goal

@@ -1,4 +1,4 @@
-use borrow.Author.Rules.{rules}
+use Rattle.std.proofs.Common.{rules}
 use Rattle.firstpass.proofs.Laws as laws
 use Rattle.firstpass.proofs.field.Goals as goal
 

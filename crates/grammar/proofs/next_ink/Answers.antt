@@ -1,12 +1,8 @@
-use borrow.Author.Rules.{rules}
 use Rattle.grammar.proofs.Ahead as laws
 use Rattle.grammar.proofs.next_ink.Goals as goal
 
-pub returns-then-c-ne-BLANK : goal.returns-then-c-ne-BLANK
-returns-then-c-ne-BLANK c = search (rules, laws.inks_next)
-
-pub returns-then-place-end : goal.returns-then-place-end
-returns-then-place-end c = search (rules, laws.inks_here)
+pub returns-in_err-place : goal.returns-in_err-place
+returns-in_err-place c = rw c.from_residual.ensures (laws.ink_none _ _ c.requires c.in_err-place.ensures)
 
 pub returns : goal.returns
-returns c = search (rules, laws.inks_end)
+returns c = laws.ink_there _ _ c.requires _ c.in_ok-place.ensures

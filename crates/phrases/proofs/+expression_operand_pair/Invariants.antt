@@ -1,5 +1,6 @@
 use Rattle.phrases.proofs.+expression_operand_pair.Given as goal
 
+-- The levels left fall at each call.
 abbrev pub decreases-expression : goal.decreases-expression
 decreases-expression l = l.left
 

@@ -1,12 +1,12 @@
+use Rattle.std.proofs.Common.{rules}
 use Rattle.phrases.proofs.Operators as laws
-use borrow.Author.Rules.{rules}
 use Rattle.phrases.proofs.joining.Goals as goal
 
-pub returns-then-first-ne-WHOLE : goal.returns-then-first-ne-WHOLE
-returns-then-first-ne-WHOLE c = search (rules, laws.joins_fault)
+pub returns-in_default : goal.returns-in_default
+returns-in_default c = search (rules, laws.joins_end)
 
-pub returns-then-joint-eq-NO_SIGN : goal.returns-then-joint-eq-NO_SIGN
-returns-then-joint-eq-NO_SIGN c = search (rules, laws.joins_none)
+pub returns-in-Some-joint_of : goal.returns-in-Some-joint_of
+returns-in-Some-joint_of c = search (rules, laws.joins_some)
 
-pub returns : goal.returns
-returns c = search (rules, laws.joins_stored)
+pub returns-in-None : goal.returns-in-None
+returns-in-None c = search (rules, laws.joins_none)

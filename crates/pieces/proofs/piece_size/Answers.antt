@@ -1,12 +1,12 @@
+use mathlib.Core.Path.{refl}
 use Rattle.pieces.proofs.Piece as laws
-use borrow.Author.Rules.{rules}
 use Rattle.pieces.proofs.piece_size.Goals as goal
 
-pub cone_of-cone-requires : goal.cone_of-cone-requires
-cone_of-cone-requires c = search (rules, laws.deps_long)
+pub slice_bounds-conjunct-end : goal.slice_bounds-conjunct-end
+slice_bounds-conjunct-end c = laws.span_within _ _ _ _ c.property_nodes.ensures c.requires
 
 pub frames_size-requires : goal.frames_size-requires
-frames_size-requires c = laws.lent_some _ c.args.inits.now c.args.initials _ _ _ _ _ _ _ _ c.project-n.result c.project-n.new.row c.cone_of-cone.ensures c.project-n.ensures.0 c.project-n.ensures.1 c.project-n.ensures.2 _ _ c.requires.2
+frames_size-requires c = laws.lent_some _ _ _ _ c.property_nodes.ensures _ c.kept_by-kept.ensures _ c.states.ensures _ refl c.requires
 
 pub returns : goal.returns
-returns c = search (rules, laws.piece_counted)
+returns c = laws.piece_counted _ _ _ _ c.property_nodes.ensures _ c.kept_by-kept.ensures _ c.states.ensures _ refl _ c.frames_size.ensures

@@ -1,33 +1,18 @@
-use borrow.Author.Rules.{rules}
+use mathlib.Core.Path.{refl}
 use Rattle.pieces.proofs.All as laws
 use Rattle.pieces.proofs.pieces_size.Goals as goal
 
-pub loop-i-init : goal.loop-i-init
-loop-i-init c = search (rules, laws.size_start)
-
-pub overflow_mul-i : goal.overflow_mul-i
-overflow_mul-i c = search (rules, laws.twice_fits)
-
-pub place_at-from-requires : goal.place_at-from-requires
-place_at-from-requires c = search (rules, laws.first_place)
-
-pub overflow_mul-i-in-loop-i : goal.overflow_mul-i-in-loop-i
-overflow_mul-i-in-loop-i c = search (rules, laws.twice_fits)
-
-pub overflow_add-i : goal.overflow_add-i
-overflow_add-i c = search (rules, laws.twice_more_fits)
-
-pub place_at-to-requires : goal.place_at-to-requires
-place_at-to-requires c = search (rules, laws.second_place)
+pub loop-span-init : goal.loop-span-init
+loop-span-init c = laws.size_start _ _ _
 
 pub piece_size-n-requires : goal.piece_size-n-requires
-piece_size-n-requires c = laws.placed-some _ _ _ _ _ _ _ _ _ _ _ c.loop-i-test.true _ _ c.place_at-from.ensures.0 c.place_at-to.ensures.0 _ c.requires.1
+piece_size-n-requires c = laws.placed-some _ _ _ _ c.loop-span-test.true _ refl c.requires
 
 pub overflow_add-n : goal.overflow_add-n
-overflow_add-n c = search (rules, laws.size_fits)
+overflow_add-n c = laws.size_fits _ _ _ _ c.loop-span-test.true _ refl _ _ c.piece_size-n.ensures c.loop-span.invariant c.requires
 
-pub loop-i-preserved : goal.loop-i-preserved
-loop-i-preserved c = search (rules, laws.size_on)
+pub loop-span-preserved : goal.loop-span-preserved
+loop-span-preserved c = laws.size_on _ _ _ _ c.loop-span-test.true _ refl _ _ c.piece_size-n.ensures c.loop-span.invariant
 
 pub returns : goal.returns
-returns c = search (rules, laws.size-done)
+returns c = laws.size-done _ _ _ _ _ c.loop-span-test.false c.loop-span.invariant

@@ -1,39 +1,38 @@
 use mathlib.Core.Path.{refl}
+use native.Mathlib.Omega.{arith}
+use Rattle.cones.proofs.Answered.{given_some}
 use Rattle.pieces.proofs.Stored as laws
 use Rattle.pieces.proofs.reduce.Goals as goal
 
-pub split_property-count-requires : goal.split_property-count-requires
-split_property-count-requires c = let p = c.requires in (laws.size-within _ _ _ _ _ _ p.0 p.1 p.2, laws.coded_some _ _ _ _ _ _ p.0 p.1 p.2 _ refl)
-
 pub dependencies-requires : goal.dependencies-requires
-dependencies-requires c = let p = c.requires in (laws.given_some _ _ _ _ _ _ p.0 p.1 p.2, refl)
+dependencies-requires c = (given_some _ c.requires, refl)
+
+pub split_property-conjuncts-requires : goal.split_property-conjuncts-requires
+split_property-conjuncts-requires c = (omega arith, laws.coded_some _ _ c.property_nodes.ensures c.requires)
 
 pub pieces_size-needed-requires : goal.pieces_size-needed-requires
 pieces_size-needed-requires c =
-    let p = c.requires in laws.bound_some _ _ _ _ _ _ p.0 p.1 p.2 _ _ _ _ c.dependencies.ensures refl c.split_property-count.ensures
+    laws.bound_some _ _ c.property_nodes.ensures _ _ _ c.dependencies.ensures c.as_slice-spans.ensures c.split_property-conjuncts.ensures c.requires
 
 pub returns-then-out-needed : goal.returns-then-out-needed
 returns-then-out-needed c = λ D a e.
-    let b = laws.came_bound _ _ _ _ _ _ D a e _ _ _ _ c.dependencies.ensures refl c.split_property-count.ensures in
+    let b = laws.its_bound _ _ c.property_nodes.ensures _ _ _ c.dependencies.ensures c.as_slice-spans.ensures c.split_property-conjuncts.ensures D a e in
     let q = c.pieces_size-needed.ensures D b in
-    let out = c.args.out.now in
-    (laws.refused_answer D _ out q c.if-out-needed.true, laws.refused_buffer D _ out q c.if-out-needed.true)
+    let h = c.if-out-needed.true in
+    (laws.refused_answer D _ _ q h, laws.refused_buffer D _ _ q h)
 
 pub write_pieces-n-requires : goal.write_pieces-n-requires
 write_pieces-n-requires c =
-    let p = c.requires in
-    let deps = c.dependencies.ensures in
-    let split = c.split_property-count.ensures in
-    let b = laws.came_bound _ _ _ _ _ _ p.0 p.1 p.2 _ _ _ _ deps refl split in
-    laws.room-some _ _ _ _ _ _ p.0 p.1 p.2 _ _ _ _ deps refl split _ _ (c.pieces_size-needed.ensures _ b) c.if-out-needed.false
+    let n = c.pieces_size-needed.ensures in
+    laws.room-some _ _ c.property_nodes.ensures _ _ _ c.dependencies.ensures c.as_slice-spans.ensures c.split_property-conjuncts.ensures _ _ n c.if-out-needed.false c.requires
 
 pub returns : goal.returns
 returns c = λ D a e.
-    let deps = c.dependencies.ensures in
-    let split = c.split_property-count.ensures in
-    let b = laws.came_bound _ _ _ _ _ _ D a e _ _ _ _ deps refl split in
+    let p = c.property_nodes.ensures in
+    let t = c.dependencies.ensures in
+    let s = c.split_property-conjuncts.ensures in
+    let b = laws.its_bound _ _ p _ _ _ t c.as_slice-spans.ensures s D a e in
     let q = c.pieces_size-needed.ensures D b in
     let h = c.if-out-needed.false in
-    let out = c.args.out.now in
-    let done = c.write_pieces-n.ensures D b (laws.room-there D _ out q h) in
-    (laws.fine_answer D _ out q _ _ h (laws.pieces_counted _ _ _ _ _ _ D a e _ _ _ _ deps refl split) done.0, laws.fine_buffer D _ out q _ h done.1)
+    let done = c.write_pieces-n.ensures D b (laws.room-there D _ _ q h) in
+    (laws.fine_answer D _ _ q _ _ h (laws.pieces_counted _ _ p _ _ _ t c.as_slice-spans.ensures s D a e) done.0, laws.fine_buffer D _ _ q _ h done.1)

@@ -5,4 +5,4 @@ pub returns-then-out-lt15 : goal.returns-then-out-lt15
 returns-then-out-lt15 c = laws.no_refusal _ _ _ _ c.if-out-lt15.true
 
 pub returns : goal.returns
-returns c = let put = c.put_number_frame.ensures in laws.refusal_put _ _ _ _ _ _ c.if-out-lt15.false put.0 put.1
+returns c = laws.refusal_put _ _ _ _ c.if-out-lt15.false _ c.put_byte.ensures _ c.put_number.ensures _ c.put_number-2.ensures _ c.put_number-3.ensures _ c.put_end.ensures

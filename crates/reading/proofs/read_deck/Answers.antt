@@ -1,50 +1,34 @@
+use mathlib.Core.Path.{sym}
+use native.Mathlib.Omega.{arith}
+use denote.Enum.Bare.{differs_true, differs_false}
+use Rattle.decklines.specs.contracts.Due.{the_type}
+use Rattle.std.proofs.lemmas.Result.{err_from_is_err_and}
 use Rattle.reading.proofs.Laws as laws
 use borrow.Author.Rules.{rules}
 use Rattle.reading.proofs.read_deck.Goals as goal
 
 pub returns-then-text-gt-TEXT : goal.returns-then-text-gt-TEXT
-returns-then-text-gt-TEXT c = search (rules, laws.too_long)
+returns-then-text-gt-TEXT c = laws.too_long _ _ c.if-text-gt-TEXT.true
 
 pub loop-at-init : goal.loop-at-init
-loop-at-init c = search (rules, laws.reached_begun, laws.blank-long)
+loop-at-init c = (omega arith, omega arith, omega arith, c.if-text-gt-TEXT.false, laws.reached_begun _ _ _ c.requires c.if-text-gt-TEXT.false c.nothing-held.ensures)
 
 pub returns-then-end-text : goal.returns-then-end-text
-returns-then-end-text c = search (rules, laws.reached_early)
+returns-then-end-text c = laws.reached_early _ c.loop-at.invariant.4 _ c.loop-at-test.true c.line_end-end.ensures.0 c.if-end-text.true
 
-pub deck_line-r-requires : goal.deck_line-r-requires
-deck_line-r-requires c = search (rules, laws.reached_within)
-
-pub returns-then-held-ne-DUE_NONE : goal.returns-then-held-ne-DUE_NONE
-returns-then-held-ne-DUE_NONE c = search (rules, laws.reached_unfinished)
-
-pub returns-then-missing-ne0 : goal.returns-then-missing-ne0
-returns-then-missing-ne0 c = search (rules, laws.reached_missing)
-
-pub returns : goal.returns
-returns c = search (rules, laws.reached_done)
+pub returns-in_err-held : goal.returns-in_err-held
+returns-in_err-held c =
+    let p = err_from_is_err_and c.from_residual.result c.from_residual.ensures.1 in
+    rw (p.1, p.2) (laws.reached_refused _ c.loop-at.invariant.4 _ c.line_end-end.ensures.0 c.line_end-end.ensures.2 c.if-end-text.false c.line_end-end.ensures.1 _ _ c.deck_line.ensures _ c.in_err-held.was)
 
 pub loop-at-preserved : goal.loop-at-preserved
-loop-at-preserved c =
-    let turn : laws.Turn c.args.text.now c.loop-at.inits c.loop-at.lefts c.loop-at.ends c.loop-at.nodes c.loop-at.property c.loop-at.held c.loop-at.at c.loop-at.n c.line_end-end.result c.deck_line-r.result c.deck_line-r.new.inits c.deck_line-r.new.lefts c.deck_line-r.new.ends c.deck_line-r.new.nodes c.deck_line-r.new.property
-    = record {
-      reached = c.loop-at.invariant.10;
-      end_is = c.line_end-end.ensures.0;
-      end_within = c.line_end-end.ensures.2;
-      end_before = c.if-end-text.false;
-      begins-before = c.line_end-end.ensures.1;
-      line_came = c.deck_line-r.ensures.1;
-    } in
-    (search rules, search rules, search rules, search rules, search rules, search rules, search rules, search rules, search rules, c.deck_line-r.ensures.0, laws.reached_on _ _ _ _ _ _ _ _ _ _ _ _ _ _ _ _ turn c.if-not-r.false)
+loop-at-preserved c = (omega arith, omega arith, omega arith, omega arith, laws.reached_on _ c.loop-at.invariant.4 _ c.line_end-end.ensures.0 c.line_end-end.ensures.2 c.if-end-text.false c.line_end-end.ensures.1 _ _ c.deck_line.ensures _ c.in_ok-held.was)
 
-pub returns-then-not-r : goal.returns-then-not-r
-returns-then-not-r c =
-    let turn : laws.Turn c.args.text.now c.loop-at.inits c.loop-at.lefts c.loop-at.ends c.loop-at.nodes c.loop-at.property c.loop-at.held c.loop-at.at c.loop-at.n c.line_end-end.result c.deck_line-r.result c.deck_line-r.new.inits c.deck_line-r.new.lefts c.deck_line-r.new.ends c.deck_line-r.new.nodes c.deck_line-r.new.property
-    = record {
-      reached = c.loop-at.invariant.10;
-      end_is = c.line_end-end.ensures.0;
-      end_within = c.line_end-end.ensures.2;
-      end_before = c.if-end-text.false;
-      begins-before = c.line_end-end.ensures.1;
-      line_came = c.deck_line-r.ensures.1;
-    } in
-    laws.reached_refused _ _ _ _ _ _ _ _ _ _ _ _ _ _ _ _ c.refused-then-not-r.result turn c.if-not-r.true c.refused-then-not-r.ensures
+pub returns-then-ne : goal.returns-then-ne
+returns-then-ne c = laws.reached_unfinished _ c.loop-at.invariant.4 c.loop-at-test.false (differs_true the_type _ _ (sym c.if-ne.ensures))
+
+pub returns-then-missing-ne0 : goal.returns-then-missing-ne0
+returns-then-missing-ne0 c = laws.reached_missing _ c.loop-at.invariant.4 c.loop-at-test.false (differs_false the_type (search rules) _ _ (sym c.if-ne.ensures)) _ c.without-missing.ensures c.if-missing-ne0.true _ c.lowest.ensures
+
+pub returns : goal.returns
+returns c = laws.reached_done _ c.loop-at.invariant.4 c.loop-at-test.false (differs_false the_type (search rules) _ _ (sym c.if-ne.ensures)) _ c.without-missing.ensures c.if-missing-ne0.false

@@ -1,12 +1,10 @@
-use mathlib.Core.Path.{◌≡◌}
-use Prim.Native.Nat.{◌+◌, ◌-◌, ◌≤◌}
-use lib.ListN.{length, drop}
+use Rattle.std.proofs.Common.{◌≡◌, length}
 use Rattle.cards.specs.Card.{cards_of}
 use Rattle.statements.specs.Hold.{continued}
 use Rattle.statements.proofs.is_continued.Given as goal
 
-abbrev pub invariant-loop-i : goal.invariant-loop-i
-invariant-loop-i l = (l.i ≤ length l.text + 1) × (continued (cards_of (drop l.at l.text)) ≡ continued (cards_of (drop l.i l.text)))
+abbrev pub invariant-loop-card : goal.invariant-loop-card
+invariant-loop-card l = continued (cards_of l.cards.text.now) ≡ continued (cards_of l.left.text.now)
 
-abbrev pub decreases-loop-i : goal.decreases-loop-i
-decreases-loop-i l = length l.text - l.i
+abbrev pub decreases-loop-card : goal.decreases-loop-card
+decreases-loop-card l = length l.left.text.now

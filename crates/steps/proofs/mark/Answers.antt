@@ -1,16 +1,7 @@
-use Rattle.steps.proofs.Marks as laws
-use borrow.Author.Rules.{rules}
-use Rattle.evaluator.proofs.Laws as words
+use Rattle.std.proofs.Common.{rules, arith}
+use Rattle.steps.proofs.Marks.{all_marked}
 use Rattle.steps.proofs.mark.Goals as goal
 
-pub loop-k-init : goal.loop-k-init
-loop-k-init c = search (rules, words.done_none)
-
-pub loop-k-preserved : goal.loop-k-preserved
-loop-k-preserved c = search (rules, laws.mark_on)
-
-pub shape_of-marks : goal.shape_of-marks
-shape_of-marks c = search (rules, laws.mark_last)
-
 pub returns : goal.returns
-returns c = search (rules, laws.mark_last)
+returns c =
+    all_marked _ _ _ _ _ c.args.marks.now _ _ _ (omega arith) c.requires.1 c.each.ensures (search rules) c.step_marked.ensures

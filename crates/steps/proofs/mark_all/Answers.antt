@@ -1,25 +1,32 @@
-use borrow.Author.Rules.{rules}
+use Rattle.std.proofs.Common.{rules, arith, refl, sym, ◌∙◌, ◌≡◌, ◌+◌, ◌++◌, [], ◌∷◌, ◌⊎◌, inl, inr, length, length-append}
 use Rattle.steps.proofs.Equations as laws
 use Rattle.steps.proofs.mark_all.Goals as goal
 
-pub loop-i-init : goal.loop-i-init
-loop-i-init c = search (rules, laws.marking_starts)
-
-pub place_at-v-requires : goal.place_at-v-requires
-place_at-v-requires c = search (rules, laws.left_here)
+pub loop-left-init : goal.loop-left-init
+loop-left-init c = record { words_kept = refl; lefts_behind = search rules; ends_behind = search rules; marking = laws.marking_starts _ _ _ _ _ _ _ c.requires.3 }
 
 pub mark_equation-requires : goal.mark_equation-requires
 mark_equation-requires c =
-    let pre = c.requires in
-    laws.equation_ready _ _ _ _ _ _ _ _ _ _ c.loop-i-test.true c.loop-i.invariant.2 pre.0.0 pre.0.1 _ _ c.loop-i.invariant.1 pre.1 pre.2 pre.4
+    let a = c.in-Some.ensures.steps in
+    let i = c.loop-left.invariant in
+    let s = laws.walked c.args.equations.now.lefts c.args.equations.now.ends c.args.equations.now.count (length c.loop-left.yielded) _ _ _ _ (sym i.lefts_behind ∙ a.0) (sym i.ends_behind ∙ a.1) in
+    laws.equation_ready _ _ _ _ _ _ _ _ _ _ s.0 i.marking c.requires.0.0 c.requires.0.1 _ _ i.words_kept c.requires.1 c.requires.2 c.requires.4
 
-pub place_at-at-requires : goal.place_at-at-requires
-place_at-at-requires c =
-    let pre = c.requires in
-    laws.end_here _ _ _ _ _ pre.0.0 pre.0.1 c.loop-i-test.true
-
-pub loop-i-preserved : goal.loop-i-preserved
-loop-i-preserved c = search (rules, laws.marking_next)
+pub loop-left-preserved : goal.loop-left-preserved
+loop-left-preserved c =
+    let a = c.in-Some.ensures.steps in
+    let i = c.loop-left.invariant in
+    let s = laws.walked c.args.equations.now.lefts c.args.equations.now.ends c.args.equations.now.count (length c.loop-left.yielded) _ _ _ _ (sym i.lefts_behind ∙ a.0) (sym i.ends_behind ∙ a.1) in
+    let e : length (c.loop-left.yielded ++ ((c.in-Some.left, c.in-Some.end) ∷ [])) ≡ length c.loop-left.yielded + 1 = length-append c.loop-left.yielded _ in
+    record {
+      words_kept = c.mark_equation.ensures.0 ∙ i.words_kept;
+      lefts_behind = rw e s.3;
+      ends_behind = rw e s.4;
+      marking = rw e (laws.marking_next _ _ _ _ _ _ _ _ _ _ s.0 i.marking _ _ _ (c.from.ensures ∙ s.1) (c.from-at.ensures ∙ s.2) c.mark_equation.ensures.1 (omega arith));
+    }
 
 pub returns : goal.returns
-returns c = search (rules, laws.marking_ends)
+returns c =
+    let i = c.loop-left.invariant in
+    let e : (length c.loop-left.left-iterator.a.rest.now ≡ 0) ⊎ (length c.loop-left.left-iterator.b.rest.now ≡ 0) = elim c.in-None.ensures.steps [ inl (x, (h, k)) ↦ inl h | inr (x, (h, k)) ↦ inr h ] in
+    (i.words_kept, laws.marking_ends _ _ _ _ _ _ _ _ _ _ (laws.walked_over _ _ _ _ (length c.loop-left.yielded) c.requires.0.0 c.requires.0.1 (rw (← i.lefts_behind, ← i.ends_behind) e)) i.marking)

@@ -1,10 +1,12 @@
-use Rattle.steps.proofs.Equations as laws
-use Prim.Native.Nat.{◌-◌, ◌≤◌}
-use mathlib.Core.Path.{◌≡◌}
+use Rattle.std.proofs.Common.{◌≡◌, length, take, drop}
+use Rattle.steps.proofs.Equations.{Marking}
 use Rattle.steps.proofs.mark_all.Given as goal
 
-abbrev pub invariant-loop-i : goal.invariant-loop-i
-invariant-loop-i l = (l.i ≤ l.equations) × (l.words ≡ l.initial.words) × laws.Marking l.lefts l.ends l.nodes l.equations l.states l.p l.initial.marks l.marks l.i l.at
-
-abbrev pub decreases-loop-i : goal.decreases-loop-i
-decreases-loop-i l = l.equations - l.i
+abbrev pub invariant-loop-left : goal.invariant-loop-left
+invariant-loop-left l =
+    record {
+      words_kept : l.words ≡ l.initial.words;
+      lefts_behind : l.left-iterator.a.rest.now ≡ drop (length l.yielded) (take l.equations.count l.equations.lefts);
+      ends_behind : l.left-iterator.b.rest.now ≡ drop (length l.yielded) l.equations.ends;
+      marking : Marking l.equations.lefts l.equations.ends l.equations.nodes l.equations.count l.states l.p l.initial.marks l.marks (length l.yielded) l.at;
+    }

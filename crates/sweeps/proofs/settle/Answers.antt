@@ -1,12 +1,6 @@
-use borrow.Author.Rules.{rules}
-use Rattle.sweeps.proofs.Laws as laws
+use Rattle.std.proofs.Common.{rules}
+use Rattle.sweeps.proofs.Laws.{fold_settled}
 use Rattle.sweeps.proofs.settle.Goals as goal
 
-pub loop-i-init : goal.loop-i-init
-loop-i-init c = search (rules, laws.sweep_none)
-
-pub loop-i-preserved : goal.loop-i-preserved
-loop-i-preserved c = search (rules, laws.settle_back)
-
 pub returns : goal.returns
-returns c = search (rules, laws.sweep-settled)
+returns c = fold_settled c.args.words.now c.args.z c.requires.1 c.args.p c.fold.result c.requires.0 (search rules)

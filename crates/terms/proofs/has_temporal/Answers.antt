@@ -1,19 +1,14 @@
-use native.Mathlib.Omega.{arith}
+use Rattle.std.proofs.Common.{◌∙◌, ap}
+use Rattle.std.proofs.lemmas.Iterator.{YieldsList-from_slice}
+use Rattle.std.proofs.lemmas.Iterator.Search.{any_from_yields_List}
+use Rattle.terms.specs.Nodes.{temporal?, some_temporal}
 use Rattle.terms.proofs.Laws as laws
 use borrow.Author.Rules.{rules}
+use borrow.Author.Tests.{tests}
 use Rattle.terms.proofs.has_temporal.Goals as goal
 
-pub loop-i-init : goal.loop-i-init
-loop-i-init c = search (rules, arith)
-
-pub returns-then-nodes-i : goal.returns-then-nodes-i
-returns-then-nodes-i c = search (rules, laws.temporal_off)
-
-pub returns-then-is_temporal : goal.returns-then-is_temporal
-returns-then-is_temporal c = search (rules, laws.temporal_met)
-
-pub loop-i-preserved : goal.loop-i-preserved
-loop-i-preserved c = (omega arith, search (rules, laws.temporal_on))
-
 pub returns : goal.returns
-returns c = search (rules, laws.temporal-done)
+returns c =
+    any_from_yields_List (λ n. temporal? n) _ _ _ c.any.ensures.ran (YieldsList-from_slice c.part.result.now cc) (λ x b q k. search (rules, tests))
+    ∙ laws.any_temporal c.part.result.now
+    ∙ ap some_temporal c.part.ensures

@@ -5,8 +5,5 @@ use Rattle.texts.proofs.write_claim.Goals as goal
 pub returns-then-out-size : goal.returns-then-out-size
 returns-then-out-size c = search (rules, laws.refused_report, laws.refused_buffer, laws.claim_bytes_lem)
 
-pub put_claim-n-requires : goal.put_claim-n-requires
-put_claim-n-requires c = search (rules, laws.sized_there)
-
 pub returns : goal.returns
 returns c = search (rules, laws.accepted-report, laws.accepted-buffer, laws.claim_bytes_lem, laws.claim_counted)

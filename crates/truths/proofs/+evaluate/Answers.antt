@@ -1,9 +1,12 @@
-use borrow.Author.Rules.{rules}
+use Rattle.std.proofs.Common.{rules, arith}
 use Rattle.truths.proofs.Laws as laws
 use Rattle.truths.proofs.+evaluate.Goals as goal
 
-pub number_at-node-requires : goal.number_at-node-requires
-number_at-node-requires t c = search (rules, laws.node_within)
+pub offset_bounds-nodes-at : goal.offset_bounds-nodes-at
+offset_bounds-nodes-at t c = omega (arith, laws.node_within _ _ _ _ _ _ c.requires)
+
+pub bounds-nodes-at : goal.bounds-nodes-at
+bounds-nodes-at t c = search (rules, laws.node_within)
 
 pub leaf-requires : goal.leaf-requires
 leaf-requires t c = search (rules, laws.leaf_ready)
@@ -24,7 +27,7 @@ pub evaluate-other-requires : goal.evaluate-other-requires
 evaluate-other-requires t c = search (rules, laws.left_falls, laws.first_ready)
 
 pub apply_one-requires : goal.apply_one-requires
-apply_one-requires t c = search (rules, laws.one_room, laws.one_long)
+apply_one-requires t c = search (rules, laws.one_room)
 
 pub returns-then-operands-eq1 : goal.returns-then-operands-eq1
 returns-then-operands-eq1 t c = search (rules, laws.one_ends, laws.one_evaluated)
@@ -34,9 +37,6 @@ overflow_sub-left-2 t c = search (rules, laws.left-some)
 
 pub evaluate-end-requires : goal.evaluate-end-requires
 evaluate-end-requires t c = (search (rules, laws.left_falls), search (rules, laws.second_ready))
-
-pub apply_two-requires : goal.apply_two-requires
-apply_two-requires t c = search (rules, laws.two_ready)
 
 pub returns : goal.returns
 returns t c = search (rules, laws.two_ends, laws.two_evaluated)

@@ -1,12 +1,12 @@
+use Rattle.std.proofs.Common.{rules}
 use Rattle.truths.proofs.Laws as laws
-use borrow.Author.Rules.{rules}
 use Rattle.truths.proofs.leaf.Goals as goal
 
-pub returns-then-node-lt-VARIABLES_END : goal.returns-then-node-lt-VARIABLES_END
-returns-then-node-lt-VARIABLES_END c = search (rules, laws.leaf_variable)
+pub returns-in-256 : goal.returns-in-256
+returns-in-256 c = search (rules, laws.leaf_zero)
 
-pub returns-then-node-eq-ONE : goal.returns-then-node-eq-ONE
-returns-then-node-eq-ONE c = search (rules, laws.leaf_one)
+pub returns-in-257 : goal.returns-in-257
+returns-in-257 c = search (rules, laws.leaf_one)
 
-pub returns : goal.returns
-returns c = search (rules, laws.leaf_zero)
+pub returns-in_default : goal.returns-in_default
+returns-in_default c = search (rules, laws.leaf_variable)

@@ -1,6 +1,0 @@
-use borrow.Author.Rules.{rules}
-use Rattle.replies.proofs.Laws as laws
-use Rattle.replies.proofs.deck_reply.Goals as goal
-
-pub returns : goal.returns
-returns c = search (rules, laws.deck-replied)
