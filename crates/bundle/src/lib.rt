@@ -2,7 +2,7 @@
 // with stored replies.
 #![tactic(auto)]
 
-ghost use Rattle.std.specs.Prelude.{◌≡◌, ◌≤◌, length};
+ghost use Rattle.std.specs.Prelude.{◌≡◌, ◌≤◌, length, IfSome};
 
 use std::io::Read;
 
@@ -42,7 +42,9 @@ impl<'a> Text<'a> {
     }
 
     // The bytes from `from` on, which stand there once, so many times.
-    fn repeat(&mut self, from: usize, times: u64) {
+    fn repeat(&mut self, from: usize, times: u64)
+        ensures { length self.new.room.now ≡ length self.old.room.now }
+    {
         let to = self.end;
         if times == 0 {
             self.end = to.min(from);
@@ -55,7 +57,9 @@ impl<'a> Text<'a> {
         }
     }
 
-    fn bytes(self) -> &'a [u8] {
+    fn bytes(self) -> &'a [u8]
+        ensures { length result.now ≤ length self.entry.room.now }
+    {
         let Text { room, end } = self;
         &room[..end]
     }
@@ -70,37 +74,42 @@ fn digit(b: u8) -> u64 {
     }
 }
 
-// A reader, the lent buffer that holds what was read, and which of its bytes were not yet taken.
-#[derive(Drop)]
-pub struct Stream<'a, R> {
-    reader: R,
-    buffer: &'a mut [u8],
-    at: usize,
-    end: usize,
-    ghost within: { end ≤ length buffer.now },
+// Where the bytes of a buffer that were not yet taken begin, and where those that were read end.
+#[derive(Clone, Copy)]
+pub struct Stream {
+    pub at: usize,
+    pub end: usize,
 }
 
-impl<'a, R: Read> Stream<'a, R> {
+// A reader, the lent buffer that holds what was read, and what of it was taken.
+#[derive(Drop)]
+pub struct Source<'a, R> {
+    reader: R,
+    buffer: &'a mut [u8],
+    stream: Stream,
+    ghost within: { stream.end ≤ length buffer.now },
+}
+
+impl<'a, R: Read> Source<'a, R> {
     // Nothing read yet.
-    pub fn new(reader: R, buffer: &'a mut [u8]) -> Stream<'a, R> {
-        Stream {
+    pub fn new(reader: R, buffer: &'a mut [u8]) -> Source<'a, R> {
+        Source {
             reader,
             buffer,
-            at: 0,
-            end: 0,
+            stream: Stream { at: 0, end: 0 },
         }
     }
 
     // The next byte of the input. A read that fails is its end.
     pub fn next_byte(&mut self) -> Option<u8> {
-        if self.at >= self.end {
-            self.at = 0;
-            self.end = self.reader.read(self.buffer).unwrap_or(0);
+        if self.stream.at >= self.stream.end {
+            let end = self.reader.read(self.buffer).unwrap_or(0);
+            self.stream = Stream { at: 0, end };
         }
-        if self.at < self.end {
-            let b = self.buffer[self.at];
-            self.at += 1;
-            Some(b)
+        let Stream { at, end } = self.stream;
+        if at < end {
+            self.stream.at = at + 1;
+            Some(self.buffer[at])
         } else {
             None
         }
@@ -116,7 +125,9 @@ impl<'a, R: Read> Stream<'a, R> {
     }
 
     // The next segment: so many bytes, so many times.
-    fn segment(&mut self, text: &mut Text) {
+    fn segment(&mut self, text: &mut Text)
+        ensures { length text.new.room.now ≡ length text.old.room.now }
+    {
         let times = self.number(4);
         let size = self.number(4);
         let from = text.end;
@@ -127,7 +138,9 @@ impl<'a, R: Read> Stream<'a, R> {
     }
 
     // The next text, as far as it has room.
-    pub fn text<'b>(&mut self, room: &'b mut [u8]) -> &'b [u8] {
+    pub fn text<'b>(&mut self, room: &'b mut [u8]) -> &'b [u8]
+        ensures { length result.now ≤ length room.old }
+    {
         let mut text = Text { room, end: 0 };
         for _ in 0..self.number(2) {
             self.segment(&mut text);
@@ -136,7 +149,9 @@ impl<'a, R: Read> Stream<'a, R> {
     }
 
     // The next case, if there is one.
-    pub fn next_case<'b>(&mut self, deck: &'b mut [u8], claim: &'b mut [u8]) -> Option<Case<'b>> {
+    pub fn next_case<'b>(&mut self, deck: &'b mut [u8], claim: &'b mut [u8]) -> Option<Case<'b>>
+        ensures { IfSome result (λ case. (length case.deck.now ≤ length deck.old) × (length case.claim.now ≤ length claim.old)) }
+    {
         let operation = self.next_byte()?;
         let set = self.number(16);
         let room = (self.number(8) as usize).min(ROOM);

@@ -1,7 +1,7 @@
 // What comes behind `END`: the set of the first variables, 15, then the deck.
 #![tactic(auto)]
 
-ghost use Rattle.std.specs.Prelude.{◌≡◌, ◌≤◌};
+ghost use Rattle.std.specs.Prelude.{◌≡◌, ◌≤◌, IfErr};
 ghost use Rattle.logic.specs.Decks.{base};
 ghost use Rattle.decks.specs.Readings.{complete};
 ghost use Rattle.decks.specs.Lent.{ReadInto};
@@ -22,10 +22,11 @@ fn first_vars(count: usize) -> u64
     (1 << count) - 1
 }
 
-// Behind `END`, with the equations by rising variable: 15, then the deck.
+// Behind `END`, with the equations by rising variable: 15, then the deck. A refusal leaves what was lent as it was.
 pub fn finished(held: cardlines::Held, deck: &mut Deck) -> Result<(), Refusal>
     requires { (s : Sofar) × Sorted s held deck.old }
-    ensures { (s : Sofar) → Sorted s held deck.old → ReadInto (complete (deck_of s.typed)) result deck.new }
+    ensures read { (s : Sofar) → Sorted s held deck.old → ReadInto (complete (deck_of s.typed)) result deck.new }
+    ensures refused { IfErr result (λ a. deck.new ≡ deck.old) }
 {
     let vars = first_vars(held.count);
     let missing = sets::without(vars, sorting::left_set(&deck.equations));

@@ -178,7 +178,7 @@ fn put_property(nodes: &[u16], property: &mut [u16; decks::PROPERTY_NODES])
     ensures { property.new ≡ padded base.property_nodes nodes.now }
 {
     let count = nodes.len();
-    property[..count].copy_from_slice(nodes);
+    sorting::copy(nodes, &mut property[..count]);
     property[count..].fill(0);
 }
 

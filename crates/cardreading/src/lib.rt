@@ -1,11 +1,11 @@
 // The reader of cards: a text of cards read as a deck.
 #![tactic(auto)]
 
-ghost use Rattle.std.specs.Prelude.{◌≡◌};
+ghost use Rattle.std.specs.Prelude.{◌≡◌, IfErr};
 ghost use Rattle.decks.specs.Answers.{afterwards};
 ghost use Rattle.decks.specs.Stored.{blank};
 ghost use Rattle.decks.specs.Readings.{walk};
-ghost use Rattle.decks.specs.Lent.{ReadInto};
+ghost use Rattle.decks.specs.Lent.{ReadInto, RowsBlank, Uncounted};
 ghost use Rattle.cards.specs.Card.{cards_of};
 ghost use Rattle.cards.specs.Statement.{statements_of};
 ghost use Rattle.cards.specs.Read.{begun, statement_read, cards_end, read_cards};
@@ -45,8 +45,8 @@ fn second_pass(text: &[u8], deck: &mut Deck) -> Result<(), Refusal>
     cardends::finished(held, deck)
 }
 
-// A text of cards read as a deck, into a blank one.
-pub fn read_cards(text: &[u8], deck: &mut Deck) -> Result<(), Refusal>
+// Both passes over a text of cards, into a blank deck.
+fn both_passes(text: &[u8], deck: &mut Deck) -> Result<(), Refusal>
     requires { deck.old ≡ blank }
     ensures { ReadInto (read_cards text.now) result deck.new }
 {
@@ -55,4 +55,18 @@ pub fn read_cards(text: &[u8], deck: &mut Deck) -> Result<(), Refusal>
     }
     firstpass::first_pass(text)?;
     second_pass(text, deck)
+}
+
+// A text of cards read as a deck, into rows of zeros, whatever the variables and the counts beside them are. Behind a refusal these are 0.
+pub fn read_cards(text: &[u8], deck: &mut Deck) -> Result<(), Refusal>
+    requires { RowsBlank deck.old }
+    ensures read { ReadInto (read_cards text.now) result deck.new }
+    ensures refused { IfErr result (λ a. Uncounted deck.new) }
+{
+    deck.uncount();
+    let done = both_passes(text, deck);
+    if done.is_err() {
+        deck.uncount();
+    }
+    done
 }

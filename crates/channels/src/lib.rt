@@ -2,7 +2,8 @@
 // promised here; where a text cannot be read or a reply cannot be written, a message on standard error says what to do.
 #![tactic(auto)]
 
-ghost use Rattle.std.specs.Prelude.{◌≤◌, ◌≡◌, length};
+ghost use Rattle.std.specs.Prelude.{◌≤◌, ◌≡◌, length, IfSome, IfOk};
+ghost use Rattle.std.specs.Result.{result_ok};
 
 use std::env::FillError;
 use std::fmt::InlineText;
@@ -28,7 +29,9 @@ pub fn room() -> [u8; ENOUGH]
 }
 
 // Reads until the text is full, the input ends or a read fails. What a read takes sets the step, which no range knows.
-fn read_input<'a, R: Read>(reader: &mut R, text: &'a mut [u8]) -> Result<&'a [u8]> {
+fn read_input<'a, R: Read>(reader: &mut R, text: &'a mut [u8]) -> Result<&'a [u8]>
+    ensures { IfOk result (λ read. length read.now ≤ length text.old) }
+{
     let mut at = 0;
     while at < text.len() {
         let some = reader.read(&mut text[at..])?;
@@ -59,20 +62,23 @@ fn say_unread<E: Eprint>(rt: &E, name: &str, error: Error) {
 }
 
 // What was read, or nothing where it could not all be read; then a message says why.
-fn told<'a, E: Eprint>(rt: &E, name: &str, got: Result<&'a [u8]>) -> Option<&'a [u8]> {
+fn told<'a, E: Eprint>(rt: &E, name: &str, got: Result<&'a [u8]>) -> Option<&'a [u8]>
+    ensures { result ≡ result_ok got.entry }
+{
     got.map_err(|error| say_unread(rt, name, error)).ok()
 }
 
 // The text on standard input, or nothing where it could not all be read.
-pub fn read_standard<'a, R: std::io::Input + Eprint>(
-    rt: &R,
-    text: &'a mut [u8],
-) -> Option<&'a [u8]> {
+pub fn read_standard<'a, R: std::io::Input + Eprint>(rt: &R, text: &'a mut [u8]) -> Option<&'a [u8]>
+    ensures { IfSome result (λ read. length read.now ≤ length text.old) }
+{
     told(rt, "standard input", read_input(&mut rt.reader(), text))
 }
 
 // The text in a file.
-fn read_file<'a, R: Files>(rt: &R, name: &str, text: &'a mut [u8]) -> Result<&'a [u8]> {
+fn read_file<'a, R: Files>(rt: &R, name: &str, text: &'a mut [u8]) -> Result<&'a [u8]>
+    ensures { IfOk result (λ read. length read.now ≤ length text.old) }
+{
     read_input(&mut File::open(rt, name)?, text)
 }
 
@@ -92,10 +98,10 @@ pub fn words<R: Env>(rt: &R, most: usize) -> usize
 }
 
 // Whether word i of the command line is this one.
-pub fn is_word<R: Env>(rt: &R, i: usize, word: &str) -> bool {
+pub fn is_word<R: Env>(rt: &R, i: usize, word: &[u8]) -> bool {
     let mut buffer = [0u8; 16];
     match rt.arg(i, &mut buffer) {
-        Ok(n) => &buffer[..n] == word.as_bytes(),
+        Ok(n) => &buffer[..n] == word,
         Err(_) => false,
     }
 }
@@ -105,8 +111,10 @@ pub fn read_text<'a, R: Files + std::io::Input + Env + Eprint>(
     rt: &R,
     i: usize,
     text: &'a mut [u8],
-) -> Option<&'a [u8]> {
-    if is_word(rt, i, "-") {
+) -> Option<&'a [u8]>
+    ensures { IfSome result (λ read. length read.now ≤ length text.old) }
+{
+    if is_word(rt, i, b"-") {
         return read_standard(rt, text);
     }
     let mut buffer = io::buffer();

@@ -10,10 +10,7 @@ use Rattle.logic.specs.Decks.{Equation, Deck, Allowed, Accepted, base}
 use Rattle.logic.specs.Cones.{cone}
 use Rattle.std.specs.Prelude.{Ok, Err}
 use Rattle.decks.specs.declared.Refusal.TheVariants.{Outside}
-use Rattle.decks.specs.declared.Deck.{Deck as Stored}
 use Rattle.decks.specs.Lent.{HoldsEquations}
-use Rattle.decks.specs.Stored.{stored}
-use Rattle.decks.proofs.Stored.{stored_holds}
 use Rattle.cones.specs.Dependencies.{Small, Given}
 use Rattle.cones.specs.Cone.{lowest_outside, sized, cone_read}
 
@@ -51,25 +48,29 @@ module _ (D : Deck) (s : ℕ) where
   pub outside_lowest : s < 2 ^ base.variables → (s ⊆ D.vars → ⊥) → Lowest (without s D.vars) (lowest_outside D s)
   outside_lowest h n = lowest_found (without s D.vars) (lowest_outside D s) refl (λ z. n (without_subset s D.vars z)) (without_lt width s D.vars h)
 
--- ---- a deck that stands in memory
+-- ---- a deck whose equations lie in rows
 
--- The rows of a deck in memory hold equations that a deck may have.
-abbrev Holds : Stored → List Equation → Type 0
-Holds d qs = Given qs d.equations.lefts d.equations.ends d.equations.nodes d.equations.count
+module _ (vars : ℕ) (lefts ends nodes : List ℕ) (equations : ℕ) where
+  -- The rows hold equations that a deck may have.
+  abbrev Holds : List Equation → Type 0
+  Holds qs = Given qs lefts ends nodes equations
 
-pub stored_given : (d : Stored) (D : Deck) → Accepted base D → d ≡ stored D → Holds d D.equations
-stored_given d D a e = accepted_given D a d.equations.lefts d.equations.ends d.equations.nodes d.equations.count (stored_holds D d e)
+  pub given_some : (D : Deck) × Accepted base D × (vars ≡ D.vars) × HoldsEquations D.equations lefts ends nodes equations → (qs : List Equation) × Holds qs
+  given_some (D, a, v, h) = (D.equations, accepted_given D a lefts ends nodes equations h)
 
-module _ (d : Stored) where
-  pub given_some : (D : Deck) × Accepted base D × (d ≡ stored D) → (qs : List Equation) × Holds d qs
-  given_some (D, a, e) = (D.equations, stored_given d D a e)
-
-  module _ (s outside : ℕ) (o : outside ≡ without s d.vars) (D : Deck) (e : d ≡ stored D) where
+  module _ (s outside : ℕ) (o : outside ≡ without s vars) (D : Deck) (e : vars ≡ D.vars) where
     outside_its : outside ≡ without s D.vars
-    outside_its = o ∙ ap (λ (x : Stored). without s x.vars) e
+    outside_its = o ∙ ap (without s) e
 
     pub answered_outside : (v : ℕ) → (outside ≡ 0 → ⊥) → v ≡ lowest_of outside → Err (Outside 0 v) ≡ cone_read D s
     answered_outside v n l = rw (l, outside_its) (sym (read_outside D s (λ f. n (outside_its ∙ subset_without s D.vars f))))
 
-    pub answered_cone : (c n : ℕ) → outside ≡ 0 → Accepted base D → ((qs : List Equation) → Holds d qs → c ≡ cone qs s) → n ≡ size c → Ok (record { set = c; size = n }) ≡ cone_read D s
-    answered_cone c n z a f k = rw (k, f D.equations (stored_given d D a e)) (sym (read_cone D s (without_subset s D.vars (sym outside_its ∙ z))))
+    pub answered_cone : (c n : ℕ)
+        → outside ≡ 0
+        → Accepted base D
+        → HoldsEquations D.equations lefts ends nodes equations
+        → ((qs : List Equation) → Holds qs → c ≡ cone qs s)
+        → n ≡ size c
+        → Ok (record { set = c; size = n }) ≡ cone_read D s
+    answered_cone c n z a h f k =
+        rw (k, f D.equations (accepted_given D a lefts ends nodes equations h)) (sym (read_cone D s (without_subset s D.vars (sym outside_its ∙ z))))

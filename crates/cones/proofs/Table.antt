@@ -145,11 +145,23 @@ module _ (lefts ends cs : List ℕ) (n : ℕ) where
   unfolding total_nodes
   filling_starts deps e = rw e (record { places = length-replicate {A = ℕ} base.variables 0; begins = λ qs g. refl; all = λ qs g. table_filled qs })
 
+  -- Each row has a place for each equation.
+  places-enough : (qs : List Equation) → Given qs lefts ends cs n → (n ≤ length lefts) × (n ≤ length ends)
+  places-enough qs g =
+      by_cases
+      (dec_lt 0 n)
+      (λ h. let last : n - 1 < n = omega arith in (omega (arith, left-within qs lefts ends cs n (n - 1) g.held last), omega (arith, end_within qs lefts ends cs n (n - 1) g.held last)))
+      (λ z. (omega arith, omega arith))
+
+  pub ends_first : (qs : List Equation) × Given qs lefts ends cs n → n ≡ length (take n ends)
+  ends_first (qs, g) = omega (arith, (places-enough qs g).1, length-take n ends)
+
   -- As many turns as both rows have places among the first n are those of all equations.
   pub filling_ends : (deps : List ℕ) (i from : ℕ) (qs : List Equation) → i ≡ min (length (take n lefts)) (length (take n ends)) → Filling lefts ends cs n deps i from → Given qs lefts ends cs n → deps ≡ table qs
   unfolding with_equations
   filling_ends deps i from qs e f g =
-      let all : n ≤ i = by_cases (dec_lt 0 n) (λ h. let last : n - 1 < n = omega arith in omega (arith, length-take n lefts, length-take n ends, left-within qs lefts ends cs n (n - 1) g.held last, end_within qs lefts ends cs n (n - 1) g.held last)) (λ z. omega arith) in
+      let long = places-enough qs g in
+      let all : n ≤ i = omega (arith, e, long.0, long.1, length-take n lefts, length-take n ends) in
       sym (f.all qs g ∙ ap (λ (l : List Equation). with_equations l deps) (drop_of_length-le qs {i = i} (omega (arith, g.held.count_is))))
 
   module _ (i : ℕ) (h : i < n) where

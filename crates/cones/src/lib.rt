@@ -2,13 +2,13 @@
 #![tactic(auto)]
 
 ghost use Rattle.std.specs.Prelude.{◌≡◌, List, length, replicate};
-ghost use Rattle.logic.specs.Decks.{Equation, Deck as Its, Accepted, base};
+ghost use Rattle.logic.specs.Decks.{Equation, Deck, Accepted, base};
 ghost use Rattle.logic.specs.Cones.{cone};
-ghost use Rattle.decks.specs.Stored.{stored};
+ghost use Rattle.decks.specs.Lent.{Hold, in_rows};
 ghost use Rattle.cones.specs.Dependencies.{Given, table};
 ghost use Rattle.cones.specs.Cone.{cone_read};
 
-use decks::{Deck, Equations, Refusal};
+use decks::{Refusal, Rows};
 
 // A cone and its size.
 #[derive(Clone, Copy)]
@@ -18,16 +18,16 @@ pub struct SizedCone {
 }
 
 // Fills a table of zeros: for each variable the variables written in any of its equations. Each node is passed once.
-pub fn dependencies(equations: &Equations, deps: &mut [u64])
-    requires { ((qs : List Equation) × Given qs equations.now.lefts equations.now.ends equations.now.nodes equations.now.count) × (deps.old ≡ replicate base.variables 0) }
-    ensures { (qs : List Equation) → Given qs equations.now.lefts equations.now.ends equations.now.nodes equations.now.count → deps.new ≡ table qs }
+pub fn dependencies(equations: Rows, deps: &mut [u64])
+    requires { ((qs : List Equation) × Given qs equations.lefts.now equations.ends.now equations.nodes.now equations.count) × (deps.old ≡ replicate base.variables 0) }
+    ensures { (qs : List Equation) → Given qs equations.entry.lefts.now equations.entry.ends.now equations.entry.nodes.now equations.entry.count → deps.new ≡ table qs }
 {
     let n = equations.count;
     let mut at = 0;
     for (left, end) in equations.lefts[..n].iter().zip(&equations.ends[..n]) {
         let v = usize::from(*left);
         let end = usize::from(*end);
-        let more = terms::written_in(&equations.nodes, at, end);
+        let more = terms::written_in(equations.nodes, at, end);
         let its = &mut deps[v];
         *its = sets::union(*its, more);
         at = end;
@@ -49,26 +49,26 @@ pub fn closing(deps: &[u64], s: u64) -> u64
     reached
 }
 
-// The cone of s in the equations of a deck.
-fn cone_of(equations: &Equations, s: u64) -> u64
-    requires { (qs : List Equation) × Given qs equations.now.lefts equations.now.ends equations.now.nodes equations.now.count }
-    ensures { (qs : List Equation) → Given qs equations.now.lefts equations.now.ends equations.now.nodes equations.now.count → result ≡ cone qs s }
+// The cone of s in the equations that the rows hold.
+fn cone_of(equations: Rows, s: u64) -> u64
+    requires { (qs : List Equation) × Given qs equations.lefts.now equations.ends.now equations.nodes.now equations.count }
+    ensures { (qs : List Equation) → Given qs equations.entry.lefts.now equations.entry.ends.now equations.entry.nodes.now equations.entry.count → result ≡ cone qs s }
 {
     let mut deps = [0; decks::VARIABLES];
     dependencies(equations, &mut deps);
     closing(&deps, s)
 }
 
-// The cone of s in a deck, and its size; 9 names the lowest variable outside the deck's.
-pub fn cone(deck: &Deck, s: u64) -> Result<SizedCone, Refusal>
-    requires { (D : Its) × Accepted base D × (deck.now ≡ stored D) }
-    ensures { (D : Its) → Accepted base D → deck.now ≡ stored D → result ≡ cone_read D s }
+// The cone of s in the deck of these variables and equations, and its size; 9 names the lowest variable outside the deck's.
+pub fn cone(vars: u64, equations: Rows, s: u64) -> Result<SizedCone, Refusal>
+    requires { (D : Deck) × Accepted base D × (vars ≡ D.vars) × Hold D.equations (in_rows equations) }
+    ensures { (D : Deck) → Accepted base D → vars ≡ D.vars → Hold D.equations (in_rows equations.entry) → result ≡ cone_read D s }
 {
-    let outside = sets::without(s, deck.vars);
+    let outside = sets::without(s, vars);
     if outside != 0 {
         return Err(Refusal::Outside(0, sets::lowest(outside) as u64));
     }
-    let set = cone_of(&deck.equations, s);
+    let set = cone_of(equations, s);
     Ok(SizedCone {
         set,
         size: sets::size(set),

@@ -84,7 +84,7 @@ module _ (n : ℕ) (cs : List ℕ) (s : Sofar) (d : Stored) where
   unfolding set_line
   set_refused a out w = came_refused (with_vars d) (set_line n cs s.deck) a out (simp (said_refused (λ (x : ℕ). x) (whole_number 1 n 8 cs) a w, set_line))
 
-  pub set_fine : (v : ℕ) → Ok v ≡ said_as (λ (x : ℕ). x) (whole_number 1 n 8 cs) → (h : Held) → h ≡ held_of begun → Came (with_vars d) (set_line n cs s.deck) (Ok (record { due = Init; used = h.used; last = h.last; covered = h.covered })) (lent v d.inits d.initials d.equations d.property d.size)
+  pub set_fine : (v : ℕ) → Ok v ≡ said_as (λ (x : ℕ). x) (whole_number 1 n 8 cs) → (h : Held) → h ≡ held_of begun → Came (with_vars d) (set_line n cs s.deck) (Ok (record { due = Init; used = h.used; last = h.last; covered = h.covered })) (lent v d.inits 0 (record d.equations { count = 0 }) d.property 0)
   unfolding set_line
   set_fine v w h e =
       let g = said_got (λ (x : ℕ). x) (whole_number 1 n 8 cs) v w in

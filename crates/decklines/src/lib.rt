@@ -1,7 +1,7 @@
 // The lines of a deck, each judged and then stored.
 #![tactic(auto)]
 
-ghost use Rattle.std.specs.Prelude.{◌≡◌, ◌+◌, ◌*◌, ◌^◌, ◌<◌, ◌≤◌, length, drop, replicate, IfOk};
+ghost use Rattle.std.specs.Prelude.{◌≡◌, ◌+◌, ◌*◌, ◌^◌, ◌<◌, ◌≤◌, length, drop, replicate, IfOk, OnOk, OnErr};
 ghost use Rattle.lists.specs.Lists.{padded};
 ghost use Rattle.logic.specs.Expressions.{Expr};
 ghost use Rattle.logic.specs.Decks.{base};
@@ -56,12 +56,17 @@ fn set_read(line: &[u8], n: u64) -> Result<u64, Refusal>
     lines::number_at(line, 2, 8).ok_or(Refusal::BadFrame(DECK_TEXT, n))
 }
 
-// 01: the variable set.
+// 01: the variable set; no initial state, equation or node of the property stands behind it.
 pub fn set_line(line: &[u8], n: u64, deck: &mut Deck) -> Result<Held, Refusal>
-    ensures rest { deck.new ≡ record deck.old { vars = deck.new.vars } }
+    ensures rest { deck.new ≡ record deck.old { vars = deck.new.vars; initials = deck.new.initials; equations = record deck.old.equations { count = deck.new.equations.count }; size = deck.new.size } }
+    ensures none { OnOk result ((deck.new.initials ≡ 0) × (deck.new.equations.count ≡ 0) × (deck.new.size ≡ 0)) }
+    ensures kept { OnErr result (deck.new ≡ deck.old) }
     ensures came { (s : Sofar) → Came (with_vars deck.old) (set_line n (drop 2 line.now) s.deck) result deck.new }
 {
     deck.vars = set_read(line, n)?;
+    deck.initials = 0;
+    deck.equations.count = 0;
+    deck.size = 0;
     Ok(Held {
         due: Due::Init,
         ..nothing()
@@ -91,6 +96,7 @@ pub fn expression_line(
 pub fn property_line(line: &[u8], n: u64, h: Held, deck: &mut Deck) -> Result<Held, Refusal>
     requires { 2 ≤ length line.now }
     ensures rest { deck.new ≡ record deck.old { property = deck.new.property; size = deck.new.size } }
+    ensures kept { OnErr result (deck.new.size ≡ deck.old.size) }
     ensures came { (s : Sofar) → h ≡ held_of s → deck.old.vars ≡ s.deck.vars → (result ≡ line_of (property_line n (drop 2 line.now) s.deck)) × (deck.old.property ≡ replicate base.property_nodes 0 → Came (with_property deck.old) (property_line n (drop 2 line.now) s.deck) result deck.new) }
 {
     let e = expression_line(line, 2, n, &mut deck.property, 0)?;
@@ -111,6 +117,7 @@ pub fn property_line(line: &[u8], n: u64, h: Held, deck: &mut Deck) -> Result<He
 pub fn init_line(line: &[u8], n: u64, h: Held, deck: &mut Deck) -> Result<Held, Refusal>
     requires { deck.old.initials ≤ base.initials }
     ensures rest { deck.new ≡ record deck.old { inits = deck.new.inits; initials = deck.new.initials } }
+    ensures kept { OnErr result (deck.new.initials ≡ deck.old.initials) }
     ensures within { deck.new.initials ≤ base.initials }
     ensures came { (s : Sofar) → h ≡ held_of s → deck.old.vars ≡ s.deck.vars → deck.old.inits ≡ padded base.initials s.deck.inits → deck.old.initials ≡ length s.deck.inits → Came (with_inits deck.old) (init_line n (drop 2 line.now) s.deck) result deck.new }
 {
@@ -161,6 +168,7 @@ fn equation_judged(v: u8, e: Written, n: u64, h: Held, deck: &Deck) -> Result<He
 pub fn equation_line(line: &[u8], n: u64, h: Held, deck: &mut Deck) -> Result<Held, Refusal>
     requires { (h.used ≤ base.equation_nodes) × (deck.old.equations.count ≤ base.equations) }
     ensures rest { deck.new ≡ record deck.old { equations = deck.new.equations } }
+    ensures kept { OnErr result (deck.new.equations.count ≡ deck.old.equations.count) }
     ensures came { (s : Sofar) → h ≡ held_of s → deck.old.vars ≡ s.deck.vars → Hold s.deck.equations deck.old.equations → Came (with_equations deck.old) (equation_line n (drop 2 line.now) s.deck) result deck.new }
 {
     let Some(v) = lines::pair_at(line, 2) else {

@@ -1,5 +1,6 @@
 pub mod Outcomes
 pub mod Complete
 pub mod Stored
-pub mod Rows
+pub mod States
 pub mod Levels
+pub mod Lent

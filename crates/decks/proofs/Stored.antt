@@ -1,5 +1,5 @@
 -- The arrays that hold a deck's equations: equation by equation, and with one equation more.
-use mathlib.Core.Path.{◌≡◌, refl, sym, ap, ◌∙◌}
+use mathlib.Core.Path.{◌≡◌, refl, sym, ap, ◌∙◌, subst}
 use mathlib.Core.Bool.{false}
 use mathlib.Core.List.{List, [], ◌∷◌, ◌++◌, append_assoc, append-nil}
 use Prim.Native.Nat.{ℕ, zero, suc, ◌+◌, ◌-◌, ◌<◌, ◌≤◌}
@@ -12,9 +12,11 @@ use Rattle.lists.proofs.Laws.{each_get_or, take-padded, get_or-padded, padded_sn
 use Rattle.logic.specs.Expressions.{Const, nodes, code}
 use Rattle.logic.specs.Decks.{Equation, Deck, base, total_nodes}
 use Rattle.logic.proofs.Codes.{length-code}
+use Rattle.decks.specs.declared.Equations.{Equations}
+use Rattle.decks.specs.declared.Rows.{Rows}
 use Rattle.decks.specs.declared.Deck.{Deck as Stored}
 use Rattle.decks.specs.Stored.{lefts_of, ends_of, codes, stored}
-use Rattle.decks.specs.Lent.{HoldsEquations, Hold}
+use Rattle.decks.specs.Lent.{HoldsEquations, Hold, in_rows}
 
 -- What stands for an equation behind the last one.
 abbrev no_equation : Equation
@@ -155,6 +157,10 @@ module _ (D : Deck) (s : Stored) (h : s ≡ stored D) where
     nodes_are = ap (λ (x : Stored). x.equations.nodes) h;
     count_is = ap (λ (x : Stored). x.equations.count) h;
   }
+
+  -- Rows that are its equations hold them too.
+  pub stored_rows : (rows : Rows) → in_rows rows ≡ s.equations → Hold D.equations (in_rows rows)
+  stored_rows rows e = subst (λ (x : Equations). Hold D.equations x) (sym e) stored_holds
 
   pub stored_inits : take s.initials s.inits ≡ D.inits
   stored_inits = ap (λ (x : Stored). take x.initials x.inits) h ∙ take-padded base.initials D.inits

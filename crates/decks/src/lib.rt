@@ -5,7 +5,9 @@ ghost use Rattle.std.specs.Prelude.{◌≡◌, ◌≤◌, take};
 ghost use Rattle.lists.specs.Lists.{stands};
 ghost use Rattle.logic.specs.Decks.{base};
 ghost use Rattle.decks.specs.Answers.{fine, reply_of, reply_to};
+ghost use Rattle.decks.specs.Lent.{in_rows};
 ghost use Rattle.decks.specs.Stored.{blank, no_equations, sizes_of};
+ghost use Rattle.decks.specs.Lent.{without_counts};
 
 // The sizes of RULES 3.
 pub const TEXT: usize = 64800;
@@ -35,6 +37,15 @@ pub struct Equations {
     pub lefts: [u16; EQUATIONS],
     pub ends: [u16; EQUATIONS],
     pub nodes: [u16; EQUATION_NODES],
+}
+
+// The rows and the count of equations, as somebody lends them: of any length, so that there may be more than a deck has.
+#[derive(Clone, Copy)]
+pub struct Rows<'a> {
+    pub count: usize,
+    pub lefts: &'a [u16],
+    pub ends: &'a [u16],
+    pub nodes: &'a [u16],
 }
 
 // A deck: what is used of each array stands from its first place on, zeros behind it.
@@ -117,6 +128,20 @@ pub fn stands_in(states: &[u64], s: u64) -> bool
     states.contains(&s)
 }
 
+impl Equations {
+    // The equations as rows that are lent.
+    pub fn rows(&self) -> Rows<'_>
+        ensures { in_rows result ≡ self.now }
+    {
+        Rows {
+            count: self.count,
+            lefts: &self.lefts,
+            ends: &self.ends,
+            nodes: &self.nodes,
+        }
+    }
+}
+
 impl Deck {
     // The initial states of a deck.
     pub fn initial_states(&self) -> &[u64]
@@ -132,6 +157,16 @@ impl Deck {
         ensures { result.now ≡ take self.now.size self.now.property }
     {
         &self.property[..self.size]
+    }
+
+    // Takes its variables and its counts from it. The rows stay.
+    pub fn uncount(&mut self)
+        ensures { self.new ≡ without_counts self.old }
+    {
+        self.vars = 0;
+        self.initials = 0;
+        self.equations.count = 0;
+        self.size = 0;
     }
 }
 

@@ -22,7 +22,7 @@ use Rattle.logic.proofs.Codes.{length-code}
 use Rattle.decks.specs.declared.Equations.{Equations}
 use Rattle.decks.specs.Stored.{lefts_of, codes}
 use Rattle.decks.specs.Lent.{HoldsEquations, Hold}
-use Rattle.decks.proofs.Stored.{equation, length_lefts, length-codes, codes_at, within, left_is, end_is, next_end, next_equation}
+use Rattle.decks.proofs.Stored.{equation, length_lefts, length-codes, codes_at, within, end_within, left_is, end_is, next_end, next_equation}
 use Rattle.frames.specs.Hex.{pair}
 use Rattle.frames.specs.Written.{equation_kind, node_pairs, frame, equation_frames}
 use Rattle.frames.proofs.ExprLaws.{length_node_pairs}
@@ -75,6 +75,9 @@ module _ (qs : List Equation) (e : Equations) (h : Hold qs e) where
           next_end qs e.lefts e.ends e.nodes e.count i h k,
           length-code its.right,
         )
+
+    pub end_there : i < length e.ends
+    end_there = end_within qs e.lefts e.ends e.nodes e.count i h k
 
     pub right_rises : get_or (0 ∷ e.ends) i 0 ≤ get_or e.ends i 0
     right_rises = omega (arith, its_end)

@@ -6,18 +6,18 @@ ghost use Rattle.lists.specs.Lists.{splice, keep};
 ghost use Rattle.sets.specs.Sets.{has};
 ghost use Rattle.logic.specs.Decks.{Equation, base};
 ghost use Rattle.logic.specs.Pieces.{equations_of};
-ghost use Rattle.decks.specs.Lent.{HoldsEquations, Hold};
+ghost use Rattle.decks.specs.Lent.{HoldsEquations, Hold, in_rows};
 ghost use Rattle.frames.specs.Hex.{pair};
 ghost use Rattle.frames.specs.Written.{equation_kind, node_pairs, frame, equation_frames};
 ghost use Rattle.writing.specs.Parts.{Nodes};
 ghost use Rattle.equations.specs.Right.{right_begin, right_nodes};
 
-use decks::Equations;
+use decks::Rows;
 
 // Where the nodes of equation i begin.
-fn begin_of(equations: &Equations, i: usize) -> usize
-    requires { i < base.equations }
-    ensures { result ≡ right_begin i equations.now }
+fn begin_of(equations: Rows, i: usize) -> usize
+    requires { i ≤ length equations.ends.now }
+    ensures { result ≡ right_begin i (in_rows equations.entry) }
 {
     if i == 0 {
         return 0;
@@ -26,9 +26,9 @@ fn begin_of(equations: &Equations, i: usize) -> usize
 }
 
 // The nodes of the right side of equation i.
-fn right_of(equations: &Equations, i: usize) -> &[u16]
-    requires { (qs : List Equation) × Hold qs equations.now × (i < equations.now.count) }
-    ensures { result.now ≡ right_nodes i equations.now }
+fn right_of<'a>(equations: Rows<'a>, i: usize) -> &'a [u16]
+    requires { (qs : List Equation) × Hold qs (in_rows equations) × (i < equations.count) }
+    ensures { result.now ≡ right_nodes i (in_rows equations.entry) }
 {
     let from = begin_of(equations, i);
     let to = usize::from(equations.ends[i]);
@@ -48,9 +48,9 @@ pub fn put_equation(out: &mut [u8], left: u16, nodes: &[u16]) -> usize
 
 // The frames of the equations of the set's variables, and their length.
 // This and the size below walk each by itself: of what a closure changes at each equation nothing would be known after the walk.
-pub fn put_equations(out: &mut [u8], vars: u64, equations: &Equations) -> usize
-    requires { Nodes equations.now.nodes × ((qs : List Equation) × Hold qs equations.now × (length (equation_frames (equations_of vars qs)) ≤ length out.old)) }
-    ensures { (qs : List Equation) → Hold qs equations.now → (result ≡ length (equation_frames (equations_of vars qs))) × (out.new ≡ splice 0 (equation_frames (equations_of vars qs)) out.old) }
+pub fn put_equations(out: &mut [u8], vars: u64, equations: Rows) -> usize
+    requires { Nodes equations.nodes.now × ((qs : List Equation) × Hold qs (in_rows equations) × (length (equation_frames (equations_of vars qs)) ≤ length out.old)) }
+    ensures { (qs : List Equation) → Hold qs (in_rows equations.entry) → (result ≡ length (equation_frames (equations_of vars qs))) × (out.new ≡ splice 0 (equation_frames (equations_of vars qs)) out.old) }
 {
     let mut used = 0;
     for i in 0..equations.count {
@@ -63,9 +63,9 @@ pub fn put_equations(out: &mut [u8], vars: u64, equations: &Equations) -> usize
 }
 
 // How many equations are of the set's variables.
-pub fn count_of(vars: u64, equations: &Equations) -> usize
-    requires { equations.now.count ≤ base.equations }
-    ensures { (result ≡ length (keep (has vars) (take equations.now.count equations.now.lefts))) × (result ≤ equations.now.count) }
+pub fn count_of(vars: u64, equations: Rows) -> usize
+    requires { equations.count ≤ length equations.lefts.now }
+    ensures { (result ≡ length (keep (has vars) (take equations.entry.count equations.entry.lefts.now))) × (result ≤ equations.entry.count) }
 {
     equations.lefts[..equations.count]
         .iter()
@@ -74,9 +74,9 @@ pub fn count_of(vars: u64, equations: &Equations) -> usize
 }
 
 // The length of the frames of the equations of the set's variables.
-pub fn equations_size(vars: u64, equations: &Equations) -> usize
-    requires { (equations.now.count ≤ base.equations) × ((qs : List Equation) × (ns : List ℕ) × HoldsEquations qs equations.now.lefts equations.now.ends ns equations.now.count) }
-    ensures { (result ≤ 131075 * equations.now.count) × ((qs : List Equation) (ns : List ℕ) → HoldsEquations qs equations.now.lefts equations.now.ends ns equations.now.count → result ≡ length (equation_frames (equations_of vars qs))) }
+pub fn equations_size(vars: u64, equations: Rows) -> usize
+    requires { (equations.count ≤ base.equations) × ((qs : List Equation) × (ns : List ℕ) × HoldsEquations qs equations.lefts.now equations.ends.now ns equations.count) }
+    ensures { (result ≤ 131075 * equations.entry.count) × ((qs : List Equation) (ns : List ℕ) → HoldsEquations qs equations.entry.lefts.now equations.entry.ends.now ns equations.entry.count → result ≡ length (equation_frames (equations_of vars qs))) }
 {
     let mut n = 0;
     for i in 0..equations.count {

@@ -11,7 +11,9 @@ use Rattle.logic.specs.Decks.{Equation, Deck, base}
 use Rattle.logic.specs.Cones.{cone}
 use Rattle.logic.specs.Pieces.{projected, piece}
 use Rattle.logic.proofs.Codes.{written_below}
+use Rattle.decks.specs.declared.Rows.{Rows}
 use Rattle.decks.specs.declared.Deck.{Deck as Stored}
+use Rattle.decks.specs.Lent.{in_rows}
 use Rattle.decks.proofs.Stored.{stored_inits, stored_property}
 use Rattle.terms.specs.Nodes.{variables_of}
 use Rattle.terms.proofs.Trees.{variables-code}
@@ -66,10 +68,10 @@ module _ (deck : Stored) (deps : List ℕ) (span : Span) where
           ap (λ (ss : List ℕ). deck_frames (deck_of k.cone ss D.equations e)) (these ∙ its.states_are)
           ∙ ap (λ (c : ℕ). deck_frames (deck_of c (projected c D.inits) D.equations e)) its.cone_is
 
-      module _ (conjunct : List ℕ) (r : conjunct ≡ part span.from span.to property) where
-        its_lent : (D : Deck) (e : Expr) → Here D e → Lent D.equations e states deck.equations conjunct
+      module _ (conjunct : List ℕ) (r : conjunct ≡ part span.from span.to property) (rows : Rows) (these_rows : in_rows rows ≡ deck.equations) where
+        its_lent : (D : Deck) (e : Expr) → Here D e → Lent D.equations e states rows conjunct
         its_lent D e p =
-            let whole = stored_lent D p.laid.accepted deck p.laid.deck_is (take deck.initials deck.inits) property refl q in
+            let whole = stored_lent D p.laid.accepted deck p.laid.deck_is (take deck.initials deck.inits) property rows refl q these_rows in
             record {
               holds-equations = whole.holds-equations;
               holds-property = r ∙ its-part D e p;
@@ -80,19 +82,19 @@ module _ (deck : Stored) (deps : List ℕ) (span : Span) where
               property-most = omega (arith, whole.property-most, ap length r, length-take (span.to - span.from) (drop span.from property), length-drop span.from property);
             }
 
-        pub lent_some : (D : Deck) × (e : Expr) × Here D e → (qs : List Equation) × (x : Expr) × Lent qs x states deck.equations conjunct
+        pub lent_some : (D : Deck) × (e : Expr) × Here D e → (qs : List Equation) × (x : Expr) × Lent qs x states rows conjunct
         lent_some (D, e, p) = (D.equations, e, its_lent D e p)
 
         pub room-some : (room : ℕ) → (D : Deck) × (e : Expr) × Here D e × (length (deck_frames (piece D e)) ≤ room)
-            → (qs : List Equation) × (x : Expr) × Lent qs x states deck.equations conjunct × (length (frames_of k.cone states qs x) ≤ room)
+            → (qs : List Equation) × (x : Expr) × Lent qs x states rows conjunct × (length (frames_of k.cone states qs x) ≤ room)
         room-some room (D, e, p, h) = (D.equations, e, its_lent D e p, omega (arith, h, ap length (its_frames D e p)))
 
-        pub piece_counted : (n : ℕ) → ((qs : List Equation) (x : Expr) → Lent qs x states deck.equations conjunct → n ≡ length (frames_of k.cone states qs x))
+        pub piece_counted : (n : ℕ) → ((qs : List Equation) (x : Expr) → Lent qs x states rows conjunct → n ≡ length (frames_of k.cone states qs x))
             → (D : Deck) (e : Expr) → Here D e → n ≡ length (deck_frames (piece D e))
         piece_counted n g D e p = g D.equations e (its_lent D e p) ∙ ap length (its_frames D e p)
 
         pub piece_wrote : (n : ℕ) (out₀ out : List ℕ)
-            → ((qs : List Equation) (x : Expr) → Lent qs x states deck.equations conjunct → (n ≡ length (frames_of k.cone states qs x)) × (out ≡ splice 0 (frames_of k.cone states qs x) out₀))
+            → ((qs : List Equation) (x : Expr) → Lent qs x states rows conjunct → (n ≡ length (frames_of k.cone states qs x)) × (out ≡ splice 0 (frames_of k.cone states qs x) out₀))
             → (D : Deck) (e : Expr) → Here D e → (n ≡ length (deck_frames (piece D e))) × (out ≡ splice 0 (deck_frames (piece D e)) out₀)
         piece_wrote n out₀ out g D e p =
             let done = g D.equations e (its_lent D e p) in (

@@ -11,12 +11,14 @@ use Rattle.logic.specs.Expressions.{Expr, code, Narrow}
 use Rattle.logic.specs.Decks.{Equation, Deck, Accepted, base}
 use Rattle.logic.specs.Pieces.{split, piece, pieces}
 use Rattle.logic.proofs.Codes.{written-narrow, length-code}
+use Rattle.decks.specs.declared.Rows.{Rows}
 use Rattle.decks.specs.declared.Deck.{Deck as Stored}
 use Rattle.decks.specs.declared.Refusal.TheVariants.{NoRoom}
 use Rattle.decks.specs.Stored.{stored}
-use Rattle.decks.proofs.Stored.{stored_property}
+use Rattle.decks.specs.Lent.{in_rows}
+use Rattle.decks.proofs.Stored.{stored_rows, stored_property}
 use Rattle.cones.specs.Dependencies.{Given, table}
-use Rattle.cones.proofs.Answered.{stored_given}
+use Rattle.cones.proofs.Answered.{accepted_given}
 use Rattle.conjuncts.specs.declared.Span.{Span}
 use Rattle.conjuncts.specs.Conjuncts.{bounds, Coded}
 use Rattle.conjuncts.proofs.Laws.{length-bounds, split-most, bounds_bounded}
@@ -29,6 +31,17 @@ module _ (deck : Stored) where
 
   property-narrow : (D : Deck) → Accepted base D → Narrow D.property
   property-narrow D a = written-narrow 64 D.vars D.property (omega arith) a.vars_in a.property_in
+
+  -- The rows hold equations that a deck may have.
+  abbrev Holds : Rows → List Equation → Type 0
+  Holds rows qs = Given qs rows.lefts.now rows.ends.now rows.nodes.now rows.count
+
+  module _ (rows : Rows) (r : in_rows rows ≡ deck.equations) where
+    its_given : (D : Deck) → Accepted base D → deck ≡ stored D → Holds rows D.equations
+    its_given D a e = accepted_given D a _ _ _ _ (stored_rows D deck e rows r)
+
+    pub given_some : (D : Deck) × Accepted base D × (deck ≡ stored D) → (qs : List Equation) × Holds rows qs
+    given_some (D, a, e) = (D.equations, its_given D a e)
 
   module _ (property : List ℕ) (q : property ≡ take deck.size deck.property) where
     property_coded : (D : Deck) → Accepted base D → deck ≡ stored D → Coded D.property property 0 [] 64
@@ -45,7 +58,7 @@ module _ (deck : Stored) where
     coded_some (D, a, e) = (D.property, property_coded D a e)
 
     -- The table and the spans worked out.
-    module _ (deps : List ℕ) (spans held : List Span) (t : (qs : List Equation) → Given qs deck.equations.lefts deck.equations.ends deck.equations.nodes deck.equations.count → deps ≡ table qs)
+    module _ (deps : List ℕ) (spans held : List Span) (rows : Rows) (r : in_rows rows ≡ deck.equations) (t : (qs : List Equation) → Holds rows qs → deps ≡ table qs)
         (h : spans ≡ held) (s : (x : Expr) → Coded x property 0 [] 64 → held ≡ bounds 0 x) where
       its_spans : (D : Deck) → Accepted base D → deck ≡ stored D → spans ≡ bounds 0 D.property
       its_spans D a e = h ∙ s D.property (property_coded D a e)
@@ -56,7 +69,7 @@ module _ (deck : Stored) where
       pub its_bound : (D : Deck) → Accepted base D → deck ≡ stored D → Bound D deck deps spans
       its_bound D a e =
           record {
-            laid = record { accepted = a; deck_is = e; table_is = t D.equations (stored_given deck D a e) };
+            laid = record { accepted = a; deck_is = e; table_is = t D.equations (its_given rows r D a e) };
             conjuncts = rw (its_spans D a e) (bounds_bounded (code D.property) 0 D.property (property-narrow D a, ([], sym (append-nil (code D.property)))));
             count_is = spans_counted D a e;
           }

@@ -65,7 +65,7 @@ fn piece_size(deck: &Deck, deps: &[u64], span: Span) -> usize
 {
     let kept = kept_by(deck, deps, span);
     let conjunct = &deck.property_nodes()[span.from..span.to];
-    texts::frames_size(kept.cone, kept.states(), &deck.equations, conjunct)
+    texts::frames_size(kept.cone, kept.states(), deck.equations.rows(), conjunct)
 }
 
 // The piece into a buffer, and how many bytes it filled.
@@ -75,7 +75,13 @@ fn write_piece(deck: &Deck, deps: &[u64], span: Span, out: &mut [u8]) -> usize
 {
     let kept = kept_by(deck, deps, span);
     let conjunct = &deck.property_nodes()[span.from..span.to];
-    texts::write_frames(kept.cone, kept.states(), &deck.equations, conjunct, out)
+    texts::write_frames(
+        kept.cone,
+        kept.states(),
+        deck.equations.rows(),
+        conjunct,
+        out,
+    )
 }
 
 // The bytes of all pieces.
@@ -108,7 +114,7 @@ pub fn reduce(deck: &Deck, out: &mut [u8]) -> Result<Reduced, Refusal>
     ensures { (D : Its) → Accepted base D → deck.now ≡ stored D → (result ≡ reduced D (length out.old)) × (out.new ≡ reduced_into D out.old) }
 {
     let mut deps = [0; decks::VARIABLES];
-    cones::dependencies(&deck.equations, &mut deps);
+    cones::dependencies(deck.equations.rows(), &mut deps);
     let conjuncts = conjuncts::split_property::<CONJUNCTS>(deck.property_nodes());
     let spans = conjuncts.as_slice();
     let needed = pieces_size(deck, &deps, spans);

@@ -98,7 +98,7 @@ fn on_claim<R: Files + Input + Env + Print + Eprint, F: FnOnce(&[u8], &[u8], &mu
 )
     requires { F.IsAlwaysCallable put }
 {
-    if is_word(rt, i, "-") && is_word(rt, j, "-") {
+    if is_word(rt, i, b"-") && is_word(rt, j, b"-") {
         let _ = eprintln!(rt;
             "micaplume: deck and claim cannot both be read from standard input; name a file for one of them"
         );
@@ -121,11 +121,11 @@ fn on_claim<R: Files + Input + Env + Print + Eprint, F: FnOnce(&[u8], &[u8], &mu
 
 // What the first word asks of a text.
 fn asked_of<R: Env>(rt: &R) -> Option<Asked> {
-    if is_word(rt, 1, "deck") {
+    if is_word(rt, 1, b"deck") {
         Some(Asked::Deck)
-    } else if is_word(rt, 1, "pieces") {
+    } else if is_word(rt, 1, b"pieces") {
         Some(Asked::Pieces)
-    } else if is_word(rt, 1, "explain") {
+    } else if is_word(rt, 1, b"explain") {
         Some(Asked::Explained)
     } else {
         None
@@ -134,9 +134,9 @@ fn asked_of<R: Env>(rt: &R) -> Option<Asked> {
 
 // What the second word says that the text is made of.
 fn form_of<R: Env>(rt: &R) -> Option<Form> {
-    if is_word(rt, 2, "cards") {
+    if is_word(rt, 2, b"cards") {
         Some(Form::Cards)
-    } else if is_word(rt, 2, "frames") {
+    } else if is_word(rt, 2, b"frames") {
         Some(Form::Frames)
     } else {
         None
@@ -145,9 +145,9 @@ fn form_of<R: Env>(rt: &R) -> Option<Form> {
 
 // A command of three words.
 fn three_words<R: Files + Input + Env + Print + Eprint>(rt: &R) {
-    if is_word(rt, 1, "cone") {
+    if is_word(rt, 1, b"cone") {
         on_cone(rt);
-    } else if is_word(rt, 1, "check") {
+    } else if is_word(rt, 1, b"check") {
         on_claim(rt, 2, 3, |deck: &[u8], claim: &[u8], out: &mut [u8]| {
             printing::check(deck, claim, out)
         });
@@ -160,7 +160,7 @@ fn three_words<R: Files + Input + Env + Print + Eprint>(rt: &R) {
 
 // A command of four words.
 fn four_words<R: Files + Input + Env + Print + Eprint>(rt: &R) {
-    if is_word(rt, 1, "explain") && is_word(rt, 2, "check") {
+    if is_word(rt, 1, b"explain") && is_word(rt, 2, b"check") {
         on_claim(rt, 3, 4, |deck: &[u8], claim: &[u8], out: &mut [u8]| {
             explaining::check(deck, claim, out)
         });
@@ -173,7 +173,7 @@ fn four_words<R: Files + Input + Env + Print + Eprint>(rt: &R) {
 pub fn run<R: Files + Input + Env + Print + Eprint>(rt: &R) {
     match words(rt, 6) {
         0 | 1 => standard(rt),
-        2 if is_word(rt, 1, "help") => write_reply(rt, COMMANDS.as_bytes(), COMMANDS.len()),
+        2 if is_word(rt, 1, b"help") => write_reply(rt, COMMANDS.as_bytes(), COMMANDS.len()),
         4 => three_words(rt),
         5 => four_words(rt),
         _ => say_wrong(rt),

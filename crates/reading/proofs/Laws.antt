@@ -115,7 +115,7 @@ came_whole f (Refused a) r out g c = record { line_is = c.line_is; deck_is = tt 
 
 set_whole : (n : ℕ) (cs : List ℕ) (e : Deck) (d : Stored) → d ≡ deck_of begun → Given (λ t. with_vars d t ≡ deck_of t) (set_line n cs e)
 unfolding set_line
-set_whole n cs e d f = afterwards_given (λ t. with_vars d t ≡ deck_of t) (whole_number 1 n 8 cs) _ (λ v g. ap (λ (x : Stored). record x { vars = v }) f)
+set_whole n cs e d f = afterwards_given (λ t. with_vars d t ≡ deck_of t) (whole_number 1 n 8 cs) _ (λ v g. ap (λ (x : Stored). record x { vars = v; initials = 0; equations = record x.equations { count = 0 }; size = 0 }) f)
 
 module _ (n : ℕ) (s : Sofar) (d : Stored) (f : d ≡ deck_of s) where
   abbrev early_deck : Stored

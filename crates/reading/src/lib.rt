@@ -1,10 +1,10 @@
 // The reader of decks.
 #![tactic(auto)]
 
-ghost use Rattle.std.specs.Prelude.{◌≡◌, ◌≤◌, drop};
+ghost use Rattle.std.specs.Prelude.{◌≡◌, ◌≤◌, drop, IfErr};
 ghost use Rattle.logic.specs.Decks.{base};
 ghost use Rattle.decks.specs.Stored.{blank};
-ghost use Rattle.decks.specs.Lent.{ReadInto};
+ghost use Rattle.decks.specs.Lent.{ReadInto, RowsBlank, Uncounted};
 ghost use Rattle.frames.specs.Read.{Due as FrameDue, DueNone, Sofar, count_line, permits, deck_line, read_deck};
 ghost use Rattle.decklines.specs.Held.{due_of, held_of, line_of, deck_of, Came};
 ghost use Rattle.reading.specs.Within.{Within};
@@ -75,8 +75,8 @@ fn deck_line(line: &[u8], n: u64, h: Held, deck: &mut Deck) -> Result<Held, Refu
     }
 }
 
-// A text read as a deck, into one of zeros.
-pub fn read_deck(text: &[u8], deck: &mut Deck) -> Result<(), Refusal>
+// The lines of a text, into a deck of zeros.
+fn all_lines(text: &[u8], deck: &mut Deck) -> Result<(), Refusal>
     requires { deck.old ≡ blank }
     ensures { ReadInto (read_deck text.now) result deck.new }
 {
@@ -104,4 +104,18 @@ pub fn read_deck(text: &[u8], deck: &mut Deck) -> Result<(), Refusal>
         return Err(Refusal::NoEquation(sets::lowest(missing) as u64));
     }
     Ok(())
+}
+
+// A text read as a deck, into rows of zeros, whatever the variables and the counts beside them are. Behind a refusal these are 0.
+pub fn read_deck(text: &[u8], deck: &mut Deck) -> Result<(), Refusal>
+    requires { RowsBlank deck.old }
+    ensures read { ReadInto (read_deck text.now) result deck.new }
+    ensures refused { IfErr result (λ a. Uncounted deck.new) }
+{
+    deck.uncount();
+    let done = all_lines(text, deck);
+    if done.is_err() {
+        deck.uncount();
+    }
+    done
 }

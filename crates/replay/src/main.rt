@@ -1,7 +1,7 @@
 // Runs the cases of a bundle on standard input through the public operations, and prints a line for each reply.
 #![tactic(auto)]
 
-use bundle::{Case, Stream};
+use bundle::{Case, Source};
 use replies::{CountReply, DeckReply};
 use std::io::Read;
 
@@ -102,7 +102,7 @@ fn run_case<P: Print>(
     replylines::clear(&mut out[..covered]);
     let r = perform(operation, case, &mut out[..case.room]);
     let line = replylines::Line {
-        operation: char::from(case.operation),
+        operation: u64::from(case.operation),
         number: r.number,
         text: r.text,
         place: r.place,
@@ -116,12 +116,12 @@ fn run_case<P: Print>(
 // Reads a case and runs it.
 fn run_next<R: Read, P: Print>(
     rt: &P,
-    stream: &mut Stream<R>,
+    source: &mut Source<R>,
     deck: &mut [u8],
     claim: &mut [u8],
     out: &mut [u8; BUFFER],
 ) -> Result<(), End> {
-    let case = stream.next_case(deck, claim).ok_or(End::NoOperation)?;
+    let case = source.next_case(deck, claim).ok_or(End::NoOperation)?;
     let operation = Operation::try_from(case.operation)?;
     run_case(rt, operation, case, out).map_err(|_| End::Unwritten)
 }
@@ -129,14 +129,14 @@ fn run_next<R: Read, P: Print>(
 // Nothing says that the input ends, so the turns are as many as no run uses up.
 fn replay<R: Read, P: Print>(
     rt: &P,
-    stream: &mut Stream<R>,
+    source: &mut Source<R>,
     deck: &mut [u8],
     claim: &mut [u8],
     out: &mut [u8; BUFFER],
 ) -> End {
     let turns = u64::MAX;
     for _ in 0..turns {
-        if let Err(end) = run_next(rt, stream, deck, claim, out) {
+        if let Err(end) = run_next(rt, source, deck, claim, out) {
             return end;
         }
     }
@@ -148,8 +148,8 @@ fn main(rt: HostRuntime) {
     let mut deck = io::large_buffer();
     let mut claim = io::large_buffer();
     let mut out = [0; BUFFER];
-    let mut stream = Stream::new(rt.reader(), &mut buffer);
-    if let End::NoOperation = replay(&rt, &mut stream, &mut deck, &mut claim, &mut out) {
+    let mut source = Source::new(rt.reader(), &mut buffer);
+    if let End::NoOperation = replay(&rt, &mut source, &mut deck, &mut claim, &mut out) {
         let _ = eprintln!(rt; "replay: a case without an operation");
     }
 }

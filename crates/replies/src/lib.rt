@@ -1,7 +1,7 @@
 // Replies: number, text and place of what was read, and beside them its deck, or what writing, reducing or closing it gives.
 #![tactic(auto)]
 
-ghost use Rattle.std.specs.Prelude.{◌≡◌};
+ghost use Rattle.std.specs.Prelude.{◌≡◌, List, ℕ};
 ghost use Rattle.logic.specs.Decks.{Deck as Its};
 ghost use Rattle.decks.specs.Answers.{Outcome, reply_of};
 ghost use Rattle.decks.specs.Lent.{ReadInto};
@@ -85,15 +85,15 @@ pub fn written(read: Result<(), Refusal>, deck: &Deck, out: &mut [u8]) -> CountR
     }
 }
 
-// Gives the cone of s in the deck that was read, or its refusal.
+// Gives the cone of s in the deck that was read, or its refusal. Of the deck it takes the variables and equations: any initial states and property would do.
 pub fn closed(read: Result<(), Refusal>, deck: &Deck, s: u64) -> CountReply
-    requires { (o : Outcome Its) × Readable o × ReadInto o read deck.now }
-    ensures { (o : Outcome Its) → Readable o → ReadInto o read deck.now → result ≡ cone_reply o s }
+    requires { (o : Outcome Its) × Readable o × (inits : List ℕ) × (property : List ℕ) × ReadInto o read (record deck.now { inits = inits; property = property }) }
+    ensures { (o : Outcome Its) (inits property : List ℕ) → Readable o → ReadInto o read (record deck.now { inits = inits; property = property }) → result ≡ cone_reply o s }
 {
     if let Err(a) = read {
         return refusal(a);
     }
-    match cones::cone(deck, s) {
+    match cones::cone(deck.vars, deck.equations.rows(), s) {
         Ok(c) => count_reply(Reply::fine(), c.set, c.size as u64),
         Err(a) => refusal(a),
     }

@@ -4,6 +4,7 @@
 
 ghost use Rattle.std.specs.Prelude.{◌≡◌, slice_index, EachIndex};
 
+use std::fmt::InlineText;
 use std::{fmt, io};
 
 // Every byte of a buffer as before a case.
@@ -20,10 +21,10 @@ pub fn digest(bytes: &[u8]) -> u64 {
     })
 }
 
-// What a case replies.
+// What a case replies; the operation stands for the byte that it is modulo 256.
 #[derive(Clone, Copy)]
 pub struct Line {
-    pub operation: char,
+    pub operation: u64,
     pub number: u64,
     pub text: u64,
     pub place: u64,
@@ -32,17 +33,30 @@ pub struct Line {
     pub digest: u64,
 }
 
+// The numbers behind the operation, whose byte need not be text.
 impl fmt::Display for Line {
     fn fmt<W: fmt::Write>(&self, f: &mut fmt::Formatter<W>) -> fmt::Result {
         write!(
             f,
-            "{} {} {} {} {:016X} {:016X} {:016X}",
-            self.operation, self.number, self.text, self.place, self.first, self.second, self.digest
+            " {} {} {} {:016X} {:016X} {:016X}",
+            self.number, self.text, self.place, self.first, self.second, self.digest
         )
     }
 }
 
-// Writes the line of a reply.
+// The most bytes of the numbers of a line, with room to spare.
+const NUMBERS: usize = 126;
+
+// The most bytes of a line: the operation stands before the numbers, the end of the line behind them.
+const LINE: usize = NUMBERS + 2;
+
+// Writes the line of a reply, at once.
 pub fn print_line<R: Print>(rt: &R, line: Line) -> io::Result<()> {
-    println!(rt; "{line}")
+    let numbers = InlineText::<NUMBERS>::of(line);
+    let numbers = numbers.as_str().as_bytes();
+    let end = numbers.len() + 1;
+    let mut bytes = [b'\n'; LINE];
+    bytes[0] = (line.operation % 256) as u8;
+    bytes[1..end].copy_from_slice(numbers);
+    rt.write_all(&bytes[..=end])
 }

@@ -56,6 +56,11 @@ ends Empty = true
 ends Opening = true
 ends Continuing = false
 
+-- Whether the first of the cards that follow continues a statement.
+abbrev pub first_continues : List (List ℕ) → Bool
+first_continues [] = false
+first_continues (c ∷ cs) = continues (kind_of c)
+
 -- Whether the first of the cards that follow and are no comments continues the statement before it.
 abbrev pub continued : List (List ℕ) → Bool
 continued [] = false
@@ -93,3 +98,16 @@ pub record Takes (o : Opener) (stmt : Stmt) (left : Cards) : Type 0 where
   pub first : from_opener o ≡ its ∷ following left
   pub onward : length left.text.now ≤ length o.behind.text.now
   pub formed : Formed left.n (cards_of left.text.now)
+
+-- The next statement is in hand, and the cards behind it are left, from where all is in form.
+pub record NextTaken (cards : Cards) (stmt : Stmt) (left : Cards) : Type 0 where
+  pub its : Statement
+  pub stmt_is : stmt ≡ stmt_of its
+  pub first : following cards ≡ its ∷ following left
+  pub onward : length left.text.now < length cards.text.now
+  pub formed : Formed left.n (cards_of left.text.now)
+
+-- Of these cards the next statement is taken; or there is none.
+abbrev pub TakesNext : Cards → Option (Stmt × Cards) → Type 0
+TakesNext cards None = following cards ≡ []
+TakesNext cards (Some t) = NextTaken cards t.0 t.1

@@ -3,7 +3,7 @@
 
 ghost use Rattle.std.specs.Prelude.{◌≡◌, [], ◌+◌, ◌<◌, ◌≤◌, length, take};
 ghost use Rattle.cards.specs.Card.{cards_of, field_columns, kind_of};
-ghost use Rattle.statements.specs.Hold.{held, Room, with_card, characters, continues, continued, Formed, Placed, AtOpener, Takes};
+ghost use Rattle.statements.specs.Hold.{held, Room, with_card, characters, continues, first_continues, continued, Formed, Placed, AtOpener, Takes, TakesNext};
 
 use firstpass::{CardKind, Cards, column, field, is_comment, kind_of};
 
@@ -90,14 +90,25 @@ pub fn opening<'a>(cards: Cards<'a>) -> Option<Opener<'a>>
     None
 }
 
-// Whether a card continues a statement: none does that has a blank in column 6.
+// Whether a card continues a statement.
 fn continues(card: &[u8]) -> bool
     ensures { result ≡ continues (kind_of card.now) }
 {
-    if column(card, MARK) == b' ' {
+    kind_of(card) == CardKind::Continuing
+}
+
+// Whether the first of these cards continues a statement: none does that has a blank in column 6. It is looked at before the card's end is
+// looked for: where it lies behind the end, the card has a blank there too.
+fn card_continues(left: Cards) -> bool
+    ensures { result ≡ first_continues (cards_of left.entry.text.now) }
+{
+    if column(left.text, MARK) == b' ' {
         return false;
     }
-    kind_of(card) == CardKind::Continuing
+    match left.split_first() {
+        Some((card, _)) => continues(card),
+        None => false,
+    }
 }
 
 // Whether the first of these cards that is no comment, if there is one, continues the statement before it.
@@ -105,17 +116,17 @@ pub fn is_continued(cards: Cards) -> bool
     ensures { result ≡ continued (cards_of cards.entry.text.now) }
 {
     let mut left = cards;
-    while let Some((card, behind)) = left.split_first() {
-        if !is_comment(card) {
-            return continues(card);
-        }
+    while is_comment(left.text) {
+        let Some((_, behind)) = left.split_first() else {
+            return false;
+        };
         left = behind;
     }
-    false
+    card_continues(left)
 }
 
 // The statement that a card opens, with all its continuations, and the cards behind it.
-pub fn next_statement<'a>(first: Opener<'a>) -> (Stmt, Cards<'a>)
+pub fn whole_statement<'a>(first: Opener<'a>) -> (Stmt, Cards<'a>)
     requires { Placed first }
     ensures { Takes first.entry result.0 result.1 }
 {
@@ -132,4 +143,13 @@ pub fn next_statement<'a>(first: Opener<'a>) -> (Stmt, Cards<'a>)
         left = behind;
     }
     (stmt, left)
+}
+
+// The next statement of these cards, with all its continuations, and the cards behind it.
+pub fn next_statement<'a>(cards: Cards<'a>) -> Option<(Stmt, Cards<'a>)>
+    requires { Formed cards.n (cards_of cards.text.now) }
+    ensures { TakesNext cards.entry result }
+{
+    let first = opening(cards)?;
+    Some(whole_statement(first))
 }

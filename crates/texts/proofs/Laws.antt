@@ -21,11 +21,12 @@ use Rattle.logic.specs.Meaning.{Sized}
 use Rattle.logic.specs.Pieces.{equations_of}
 use Rattle.logic.proofs.Codes.{below_more, written_below, length-code, code_fits}
 use Rattle.decks.specs.declared.Equations.{Equations}
+use Rattle.decks.specs.declared.Rows.{Rows}
 use Rattle.decks.specs.declared.Deck.{Deck as Stored}
 use Rattle.decks.specs.declared.Refusal.TheVariants.{NoRoom}
 use Rattle.decks.specs.Stored.{ends_of, codes, stored}
-use Rattle.decks.specs.Lent.{Hold}
-use Rattle.decks.proofs.Stored.{length-ends, ends_at, stored_holds, stored_inits, stored_property}
+use Rattle.decks.specs.Lent.{Hold, in_rows}
+use Rattle.decks.proofs.Stored.{length-ends, ends_at, stored_holds, stored_rows, stored_inits, stored_property}
 use Rattle.frames.specs.Hex.{pair, pairs}
 use Rattle.frames.specs.Written.{claim_kind, state_kind, claim_count_kind, claim_frames, set_bytes, set_kind, init_kind, property_kind, count_kind, node_pairs, frame, state_frames, equation_frames, deck_frames}
 use Rattle.frames.proofs.HexLaws.{length_pairs, pairs_four}
@@ -58,10 +59,10 @@ tail_frames property frames r out₀ x y z ex er ey ez =
 -- ---- the deck of a set
 
 -- What the writer of the equations has done.
-abbrev pub EquationsPut : ℕ → Equations → ℕ → List ℕ → List ℕ → Type 0
-EquationsPut vars e m x y = (qs : List Equation) → Hold qs e → (m ≡ length (equation_frames (equations_of vars qs))) × (y ≡ splice 0 (equation_frames (equations_of vars qs)) x)
+abbrev pub EquationsPut : ℕ → Rows → ℕ → List ℕ → List ℕ → Type 0
+EquationsPut vars e m x y = (qs : List Equation) → Hold qs (in_rows e) → (m ≡ length (equation_frames (equations_of vars qs))) × (y ≡ splice 0 (equation_frames (equations_of vars qs)) x)
 
-module _ (vars : ℕ) (qs : List Equation) (x : Expr) (inits : List ℕ) (e : Equations) (property : List ℕ) (l : Lent qs x inits e property) where
+module _ (vars : ℕ) (qs : List Equation) (x : Expr) (inits : List ℕ) (e : Rows) (property : List ℕ) (l : Lent qs x inits e property) where
   long : length (frames_of vars inits qs x) ≡ 19 * length inits + 19 + length (equation_frames (equations_of vars qs)) + (2 * length property + 10)
   long =
       omega (
@@ -115,7 +116,7 @@ module _ (vars : ℕ) (qs : List Equation) (x : Expr) (inits : List ℕ) (e : Eq
   pub frames_wrote : (out₀ head y z : List ℕ) (h m n : ℕ) → h ≡ 19 * length inits + 19
       → head ≡ splice 0 (frame set_kind (pairs set_bytes vars) ++ state_frames init_kind inits) out₀
       → EquationsPut vars e m (mid_of h (length head - h) head) y
-      → n ≡ length (keep (has vars) (take e.count e.lefts))
+      → n ≡ length (keep (has vars) (take e.count e.lefts.now))
       → z ≡ splice 0 (frame property_kind (node_pairs property) ++ frame count_kind (pairs 2 (length inits + n + 2)))
       (mid_of (h + m) (length (put_mid h (length head - h) head y) - (h + m)) (put_mid h (length head - h) head y))
       → put_mid (h + m) (length (put_mid h (length head - h) head y) - (h + m)) (put_mid h (length head - h) head y) z ≡ splice 0 (frames_of vars inits qs x) out₀
@@ -125,7 +126,7 @@ module _ (vars : ℕ) (qs : List Equation) (x : Expr) (inits : List ℕ) (e : Eq
       let states : List ℕ = state_frames init_kind inits in
       let mids : List ℕ = equation_frames (equations_of vars qs) in
       let last : List ℕ → ℕ → List ℕ = λ ns k. frame property_kind (node_pairs ns) ++ frame count_kind (pairs 2 k) in
-      let count : length inits + n + 2 ≡ length inits + length (equations_of vars qs) + 2 = omega (arith, en, count_is_equations vars qs e l.holds-equations) in
+      let count : length inits + n + 2 ≡ length inits + length (equations_of vars qs) + 2 = omega (arith, en, count_is_equations vars qs (in_rows e) l.holds-equations) in
       let before : h ≡ length (set ++ states) =
       omega (arith, length-append set states, length-append (pairs set_bytes vars) (10 ∷ []), length_pairs set_bytes vars, length_state_frames init_kind inits) in
       three_parts h (h + m) (set ++ states) mids (last property (length inits + n + 2)) out₀ head y z ex before (o qs l.holds-equations).1
@@ -237,17 +238,18 @@ module _ (D : Deck) (a : Accepted base D) where
         )
 
     -- An accepted deck in memory is lent as it stands.
-    pub stored_lent : (inits property : List ℕ) → inits ≡ take d.initials d.inits → property ≡ take d.size d.property → Lent D.equations D.property inits d.equations property
-    stored_lent inits property i p =
+    pub stored_lent : (inits property : List ℕ) (equations : Rows) → inits ≡ take d.initials d.inits → property ≡ take d.size d.property → in_rows equations ≡ d.equations
+        → Lent D.equations D.property inits equations property
+    stored_lent inits property equations i p r =
         let states : inits ≡ D.inits = i ∙ stored_inits D d e in
         let nodes : property ≡ code D.property = p ∙ stored_property D d e in
         record {
-          holds-equations = stored_holds D d e;
+          holds-equations = stored_rows D d e equations r;
           holds-property = nodes;
-          nodes_in = rw (ap (λ (x : Stored). x.equations.nodes) e) (nodes-padded base.equation_nodes (codes D.equations) (all-narrow D.equations a.equations-allowed));
+          nodes_in = rw (ap (λ (x : Equations). x.nodes) r ∙ ap (λ (x : Stored). x.equations.nodes) e) (nodes-padded base.equation_nodes (codes D.equations) (all-narrow D.equations a.equations-allowed));
           property_in = rw nodes (narrow D.property a.property_in);
           initials-most = omega (arith, a.inits-most, ap (λ (l : List ℕ). length l) states);
-          equations-most = deck_counts.1;
+          equations-most = omega (arith, deck_counts.1, ap (λ (x : Equations). x.count) r);
           property-most = omega (arith, a.property-nodes, length-code D.property, ap (λ (l : List ℕ). length l) nodes);
         }
 
@@ -263,10 +265,10 @@ module _ (D : Deck) (a : Accepted base D) where
       pub deck_room : (needed room : ℕ) → needed ≡ length (deck_frames D) → needed ≤ room → length (frames_of d.vars inits D.equations D.property) ≤ room
       deck_room needed room h k = omega (arith, h, ap (λ (l : List ℕ). length l) (stored_frames inits i))
 
-      module _ (n : ℕ) (out₀ out : List ℕ)
-          (f : (qs : List Equation) (x : Expr) → Lent qs x inits d.equations property → (n ≡ length (frames_of d.vars inits qs x)) × (out ≡ splice 0 (frames_of d.vars inits qs x) out₀)) where
+      module _ (equations : Rows) (r : in_rows equations ≡ d.equations) (n : ℕ) (out₀ out : List ℕ)
+          (f : (qs : List Equation) (x : Expr) → Lent qs x inits equations property → (n ≡ length (frames_of d.vars inits qs x)) × (out ≡ splice 0 (frames_of d.vars inits qs x) out₀)) where
         pub deck_length : n ≡ length (deck_frames D)
-        deck_length = (f D.equations D.property (stored_lent inits property i p)).0 ∙ ap (λ (l : List ℕ). length l) (stored_frames inits i)
+        deck_length = (f D.equations D.property (stored_lent inits property equations i p r)).0 ∙ ap (λ (l : List ℕ). length l) (stored_frames inits i)
 
         pub deck_wrote : out ≡ splice 0 (deck_frames D) out₀
-        deck_wrote = (f D.equations D.property (stored_lent inits property i p)).1 ∙ ap (λ (l : List ℕ). splice 0 l out₀) (stored_frames inits i)
+        deck_wrote = (f D.equations D.property (stored_lent inits property equations i p r)).1 ∙ ap (λ (l : List ℕ). splice 0 l out₀) (stored_frames inits i)

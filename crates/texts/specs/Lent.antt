@@ -4,16 +4,16 @@ use Rattle.logic.specs.Expressions.{Expr, code}
 use Rattle.logic.specs.Decks.{Equation, Deck, base}
 use Rattle.logic.specs.Pieces.{equations_of}
 use Rattle.logic.specs.Meaning.{Claim}
-use Rattle.decks.specs.declared.Equations.{Equations}
-use Rattle.decks.specs.Lent.{Hold}
+use Rattle.decks.specs.declared.Rows.{Rows}
+use Rattle.decks.specs.Lent.{Hold, in_rows}
 use Rattle.frames.specs.Written.{deck_frames}
 use Rattle.writing.specs.Parts.{Nodes}
 
--- The equations qs and the property x, beside initial states; the counts are in range.
-pub record Lent (qs : List Equation) (x : Expr) (inits : List ℕ) (equations : Equations) (property : List ℕ) : Type 0 where
-  pub holds-equations : Hold qs equations
+-- The rows hold the equations qs, and the property is x, beside initial states; the counts are in range.
+pub record Lent (qs : List Equation) (x : Expr) (inits : List ℕ) (equations : Rows) (property : List ℕ) : Type 0 where
+  pub holds-equations : Hold qs (in_rows equations)
   pub holds-property : property ≡ code x
-  pub nodes_in : Nodes equations.nodes
+  pub nodes_in : Nodes equations.nodes.now
   pub property_in : Nodes property
   pub initials-most : length inits ≤ base.initials
   pub equations-most : equations.count ≤ base.equations

@@ -13,7 +13,7 @@ ghost use Rattle.writing.specs.Parts.{Nodes};
 ghost use Rattle.texts.specs.Texts.{deck_written, claim_written};
 ghost use Rattle.texts.specs.Lent.{Lent, frames_of, claim_of};
 
-use decks::{Deck, Equations, Refusal};
+use decks::{Deck, Refusal, Rows};
 
 // 01 and the 02s, and their length.
 pub fn put_head(out: &mut [u8], vars: u64, inits: &[u64]) -> usize
@@ -41,12 +41,12 @@ pub fn put_tail(out: &mut [u8], property: &[u16], frames: usize) -> usize
 pub fn write_frames(
     vars: u64,
     inits: &[u64],
-    equations: &Equations,
+    equations: Rows,
     property: &[u16],
     out: &mut [u8],
 ) -> usize
-    requires { (qs : List Equation) × (e : Expr) × Lent qs e inits.now equations.now property.now × (length (frames_of vars inits.now qs e) ≤ length out.old) }
-    ensures { (qs : List Equation) (e : Expr) → Lent qs e inits.now equations.now property.now → (result ≡ length (frames_of vars inits.now qs e)) × (out.new ≡ splice 0 (frames_of vars inits.now qs e) out.old) }
+    requires { (qs : List Equation) × (e : Expr) × Lent qs e inits.now equations property.now × (length (frames_of vars inits.now qs e) ≤ length out.old) }
+    ensures { (qs : List Equation) (e : Expr) → Lent qs e inits.now equations.entry property.now → (result ≡ length (frames_of vars inits.now qs e)) × (out.new ≡ splice 0 (frames_of vars inits.now qs e) out.old) }
 {
     let n = equations::count_of(vars, equations);
     let head = put_head(out, vars, inits);
@@ -57,9 +57,9 @@ pub fn write_frames(
 }
 
 // The length of that deck.
-pub fn frames_size(vars: u64, inits: &[u64], equations: &Equations, property: &[u16]) -> usize
-    requires { (qs : List Equation) × (e : Expr) × Lent qs e inits.now equations.now property.now }
-    ensures { (qs : List Equation) (e : Expr) → Lent qs e inits.now equations.now property.now → result ≡ length (frames_of vars inits.now qs e) }
+pub fn frames_size(vars: u64, inits: &[u64], equations: Rows, property: &[u16]) -> usize
+    requires { (qs : List Equation) × (e : Expr) × Lent qs e inits.now equations property.now }
+    ensures { (qs : List Equation) (e : Expr) → Lent qs e inits.now equations.entry property.now → result ≡ length (frames_of vars inits.now qs e) }
 {
     let n = equations::equations_size(vars, equations);
     19 * inits.len() + 19 + n + (2 * property.len() + 10)
@@ -87,7 +87,7 @@ pub fn write_deck(deck: &Deck, out: &mut [u8]) -> Result<usize, Refusal>
     Ok(write_frames(
         deck.vars,
         deck.initial_states(),
-        &deck.equations,
+        deck.equations.rows(),
         deck.property_nodes(),
         out,
     ))

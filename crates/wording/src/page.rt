@@ -1,4 +1,6 @@
 // A page: words put into a lent buffer one after the other, as far as there is room.
+ghost use Rattle.std.specs.Prelude.{◌≤◌};
+
 use std::fmt::{Display, Result, Write};
 
 // The buffer, and how many of its bytes were put.
@@ -14,10 +16,21 @@ impl<'a> Page<'a> {
         Page { out, end }
     }
 
-    pub fn byte(&mut self, b: u8) {
+    pub fn byte(&mut self, b: u8)
+        ensures { self.old.end ≤ self.new.end }
+    {
         if self.end < self.out.len() {
             self.out[self.end] = b;
             self.end += 1;
+        }
+    }
+
+    // Bytes that need not be text.
+    pub fn bytes(&mut self, some: &[u8])
+        ensures { self.old.end ≤ self.new.end }
+    {
+        for b in some {
+            self.byte(*b);
         }
     }
 
@@ -46,9 +59,7 @@ impl<'a> Page<'a> {
 impl Write for Page<'_> {
     // What has no room is left out, which is no error.
     fn write_str(&mut self, s: &str) -> Result {
-        for b in s.as_bytes() {
-            self.byte(*b);
-        }
+        self.bytes(s.as_bytes());
         Ok(())
     }
 }

@@ -11,4 +11,4 @@ pub finished-requires : goal.finished-requires
 finished-requires c = laws.ready_sorted _ _ _ c.in_ok-held.ensures c.if-ne.ensures _ c.sort.ensures
 
 pub returns : goal.returns
-returns c = laws.deck_finished _ _ _ c.in_ok-held.ensures c.if-ne.ensures _ c.sort.ensures _ _ c.finished.ensures
+returns c = laws.deck_finished _ _ _ c.in_ok-held.ensures c.if-ne.ensures _ c.sort.ensures _ _ c.finished.ensures.read

@@ -4,18 +4,14 @@ use Rattle.statements.proofs.Laws.{field-short}
 use Rattle.cardsteps.proofs.StepLaws as laws
 use Rattle.cardsteps.proofs.one_statement.Goals as goal
 
-pub returns-then-is_continued : goal.returns-then-is_continued
-returns-then-is_continued c =
-    laws.continued_onward c.args.opener c.next_statement.result.0 c.next_statement.result.1 c.next_statement.ensures _ _ _ _ c.characters.ensures _ c.in_ok-next.ensures.small c.in_ok-next.ensures.came
+pub statement_read-requires : goal.statement_read-requires
+statement_read-requires c = let short = field-short _ c.args.opener.card.now c.field-field.ensures in (omega (arith, short), c.requires.1)
 
-pub statement_read-requires-2 : goal.statement_read-requires-2
-statement_read-requires-2 c = let short = field-short _ c.args.opener.card.now c.field-field.ensures in (omega (arith, short), c.requires.1)
-
-pub returns-in_err-next-2 : goal.returns-in_err-next-2
-returns-in_err-next-2 c =
-    let p = err_from_is_err_and c.from_residual-in_err-next-2.result c.from_residual-in_err-next-2.ensures.1 in
-    rw (p.1, p.2) (laws.alone_stopped c.args.opener c.requires.0 _ c.is_continued.ensures c.if-is_continued.false _ _ c.statement_read-2.new.deck _ c.field-field.ensures _ c.in_err-next-2.ensures.came)
+pub returns-in_err-next : goal.returns-in_err-next
+returns-in_err-next c =
+    let p = err_from_is_err_and c.from_residual.result c.from_residual.ensures.1 in
+    rw (p.1, p.2) (laws.alone_stopped c.args.opener c.requires.0 _ c.is_continued.ensures c.if-is_continued.false _ _ c.statement_read.new.deck _ c.field-field.ensures _ c.in_err-next.ensures.came)
 
 pub returns : goal.returns
 returns c =
-    laws.alone_onward c.args.opener c.requires.0 _ c.is_continued.ensures c.if-is_continued.false _ _ _ _ c.field-field.ensures _ c.in_ok-next-2.ensures.small c.in_ok-next-2.ensures.came
+    laws.alone_onward c.args.opener c.requires.0 _ c.is_continued.ensures c.if-is_continued.false _ _ _ _ c.field-field.ensures _ c.in_ok-next.ensures.small c.in_ok-next.ensures.came

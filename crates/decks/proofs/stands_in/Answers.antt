@@ -1,5 +1,5 @@
 use Rattle.std.proofs.Common.{◌∙◌}
-use Rattle.decks.proofs.Rows.{any_stands}
+use Rattle.decks.proofs.States.{any_stands}
 use Rattle.decks.proofs.stands_in.Goals as goal
 
 pub returns : goal.returns

@@ -1,6 +1,7 @@
 use mathlib.Core.Path.{ap, ◌∙◌}
 use borrow.Author.Rules.{rules}
 use Rattle.sets.specs.Sets.{has}
+use Rattle.decks.specs.Lent.{in_rows}
 use Rattle.equations.proofs.Laws as laws
 use Rattle.equations.proofs.put_equations.Goals as goal
 use Rattle.equations.proofs.put_equations.Goals.{then-member, else-member}
@@ -11,7 +12,7 @@ put_equation-used-requires c =
     let m = c.member.ensures ∙ ap (has c.args.vars) c.from.ensures in (
       laws.member_fits c.args.vars _ _ (search rules) m c.if-member.true,
       rw c.right_of.ensures (laws.next-free _ _ _ _ _ _ c.loop-i.invariant.1 p.0 p.1 p.2 c.loop-i.invariant.0 c.loop-i-test.true _ m c.if-member.true),
-      rw c.right_of.ensures (laws.right_some c.loop-i.i c.args.equations.now c.requires.0),
+      rw c.right_of.ensures (laws.right_some c.loop-i.i (in_rows c.args.equations) c.requires.0),
     )
 
 pub loop-i-preserved : goal.loop-i-preserved

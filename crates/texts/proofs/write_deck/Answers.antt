@@ -13,7 +13,7 @@ write_frames-requires c =
     let n = c.deck_size-needed.ensures p.0 p.1 p.2 in
     let i = c.initial_states.ensures in
     let q = c.property_nodes.ensures in
-    (p.0.equations, p.0.property, laws.stored_lent p.0 p.1 _ p.2 _ _ i q, laws.deck_room p.0 p.1 _ p.2 _ _ i q _ _ n c.if-out-needed.false)
+    (p.0.equations, p.0.property, laws.stored_lent p.0 p.1 _ p.2 _ _ _ i q c.rows.ensures, laws.deck_room p.0 p.1 _ p.2 _ _ i q _ _ n c.if-out-needed.false)
 
 pub returns : goal.returns
 returns c = λ D a e.
@@ -22,4 +22,4 @@ returns c = λ D a e.
     let q = c.property_nodes.ensures in
     let h = c.if-out-needed.false in
     let f = c.write_frames.ensures in
-    (laws.accepted-report _ _ _ n _ h (laws.deck_length D a _ e _ _ i q _ _ _ f), laws.accepted-buffer _ _ _ n _ h (laws.deck_wrote D a _ e _ _ i q _ _ _ f))
+    (laws.accepted-report _ _ _ n _ h (laws.deck_length D a _ e _ _ i q _ c.rows.ensures _ _ _ f), laws.accepted-buffer _ _ _ n _ h (laws.deck_wrote D a _ e _ _ i q _ c.rows.ensures _ _ _ f))

@@ -1,5 +1,5 @@
 use Rattle.statements.proofs.Laws as laws
-use Rattle.statements.proofs.next_statement.Goals as goal
+use Rattle.statements.proofs.whole_statement.Goals as goal
 
 pub append-requires : goal.append-requires
 append-requires c = (laws.room_none _ c.nothing-stmt.ensures, laws.field-short _ _ c.field.ensures)

@@ -1,6 +1,6 @@
 use Rattle.std.proofs.Common.{length}
 use Rattle.statements.proofs.Laws as laws
-use Rattle.statements.proofs.next_statement.Given as goal
+use Rattle.statements.proofs.whole_statement.Given as goal
 
 abbrev pub invariant-loop-card : goal.invariant-loop-card
 invariant-loop-card l = laws.Taking l.first l.stmt l.left
