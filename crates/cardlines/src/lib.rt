@@ -1,7 +1,7 @@
 // The statements of a deck of cards, each judged and then stored.
 #![tactic(auto)]
 
-ghost use Rattle.std.specs.Prelude.{◌≡◌, ◌<◌, ◌≤◌, ◌+◌, IfOk, OnOk, length, set};
+ghost use Rattle.std.specs.Prelude.{◌≡◌, ◌<◌, ◌≤◌, ◌+◌, IfOk, OnOk, OnErr, length, set};
 ghost use Rattle.logic.specs.Expressions.{Expr, Narrow, code};
 ghost use Rattle.logic.specs.Decks.{base};
 ghost use Rattle.lists.specs.Lists.{chosen, padded, stands};
@@ -95,6 +95,8 @@ fn init_statement(
     requires { (at ≤ length chars.now) × Small h deck.old }
     ensures small { IfOk result (λ k. Small k deck.new) }
     ensures came { (s : Sofar) → Holds s h deck.old → Came (init_statement n (ahead chars.now at) s.typed) result deck.new }
+    ensures vars { deck.new.vars ≡ deck.old.vars }
+    ensures kept { OnErr result (deck.new ≡ deck.old) }
 {
     let state = grammar::read_binary(chars, at, h.count).map_err(|_| Refusal::NotDue(n))?;
     if decks::INITIALS <= h.typed {
@@ -136,6 +138,7 @@ fn add_equation(
     requires { Few equations.old }
     ensures few { OnOk result (Few equations.new) }
     ensures came { (t : Typed) (x : Expr) → count ≡ t.count → Hold t.equations equations.old → Narrow x → nodes.now ≡ code x → EquationCame (with_equation n t (record { left = left; right = x })) t result equations.new }
+    ensures kept { OnErr result (equations.new ≡ equations.old) }
 {
     if count <= usize::from(left) || !all_within(nodes, count) {
         return Err(Refusal::Outside(1, n));
@@ -165,6 +168,7 @@ fn equation_statement(
     requires { (at ≤ length chars.now) × (length chars.now ≤ 1320) × Few equations.old }
     ensures few { OnOk result (Few equations.new) }
     ensures came { (t : Typed) → count ≡ t.count → Hold t.equations equations.old → EquationCame (equation_statement n (ahead chars.now at) t) t result equations.new }
+    ensures kept { OnErr result (equations.new ≡ equations.old) }
 {
     let v = grammar::read_number(chars, at).map_err(|_| Refusal::NotDue(n))?;
     let from = grammar::read_word(chars, v.next, b"=").map_err(|_| Refusal::NotDue(n))?;
@@ -192,7 +196,8 @@ fn prop_statement(
     property: &mut [u16; decks::PROPERTY_NODES],
 ) -> Result<usize, Refusal>
     requires { (at ≤ length chars.now) × (length chars.now ≤ 1320) }
-    ensures { (t : Typed) → count ≡ t.count → PropCame (prop_statement n (ahead chars.now at) t) t result property.new }
+    ensures came { (t : Typed) → count ≡ t.count → PropCame (prop_statement n (ahead chars.now at) t) t result property.new }
+    ensures kept { OnErr result (property.new ≡ property.old) }
 {
     let used = phrases::whole_expression(chars, at, scratch).map_err(|stop| refusal(n, stop))?;
     let nodes = &scratch[..used];
@@ -217,6 +222,8 @@ fn equation_or_prop(
     requires { (length chars.now ≤ 1320) × Small h deck.old }
     ensures small { IfOk result (λ k. Small k deck.new) }
     ensures came { (s : Sofar) → Holds s h deck.old → Came (equation_or_prop n (ahead chars.now 0) s.typed) result deck.new }
+    ensures vars { deck.new.vars ≡ deck.old.vars }
+    ensures kept { OnErr result (deck.new ≡ deck.old) }
 {
     if let Ok(at) = grammar::read_word(chars, 0, b"V") {
         equation_statement(chars, at, n, h.count, scratch, &mut deck.equations)?;
@@ -230,7 +237,7 @@ fn equation_or_prop(
     Ok(Held { due: Due::End, ..h })
 }
 
-// The statement of card n, where the one that is due may stand. Characters and card go on as two: of those that take both, half need no more
+// The statement of card n, where the one that is due may stand. A refusal leaves the deck as it was. Characters and card go on as two: of those that take both, half need no more
 // of a statement, and a struct of the two would be unpacked at once.
 pub fn statement_read(
     chars: &[u8],
@@ -242,6 +249,8 @@ pub fn statement_read(
     requires { (length chars.now ≤ 1320) × Small h deck.old }
     ensures small { IfOk result (λ k. Small k deck.new) }
     ensures came { (s : Sofar) → Holds s h deck.old → Came (due_statement s.due n (inked chars.now) s.typed) result deck.new }
+    ensures vars { deck.new.vars ≡ deck.old.vars }
+    ensures kept { OnErr result (deck.new ≡ deck.old) }
 {
     match h.due {
         Due::Vars => {

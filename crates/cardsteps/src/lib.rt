@@ -1,6 +1,7 @@
 // The statement that a card of a text opens, read.
 #![tactic(auto)]
 
+ghost use Rattle.std.specs.Prelude.{◌≡◌, OnErr};
 ghost use Rattle.statements.specs.Hold.{Placed};
 ghost use Rattle.cardlines.specs.Held.{Small};
 ghost use Rattle.cardsteps.specs.Stepped.{Stepped};
@@ -19,7 +20,9 @@ fn continued_statement<'a>(
     deck: &mut Deck,
 ) -> Result<(Held, Cards<'a>), Refusal>
     requires { Placed opener × Small held deck.old }
-    ensures { Stepped opener.entry held deck.old result deck.new }
+    ensures came { Stepped opener.entry held deck.old result deck.new }
+    ensures vars { deck.new.vars ≡ deck.old.vars }
+    ensures kept { OnErr result (deck.new ≡ deck.old) }
 {
     let (stmt, left) = statements::whole_statement(opener);
     let next = cardlines::statement_read(stmt.characters(), stmt.cards[0], held, scratch, deck)?;
@@ -35,7 +38,9 @@ pub fn one_statement<'a>(
     deck: &mut Deck,
 ) -> Result<(Held, Cards<'a>), Refusal>
     requires { Placed opener × Small held deck.old }
-    ensures { Stepped opener.entry held deck.old result deck.new }
+    ensures came { Stepped opener.entry held deck.old result deck.new }
+    ensures vars { deck.new.vars ≡ deck.old.vars }
+    ensures kept { OnErr result (deck.new ≡ deck.old) }
 {
     if statements::is_continued(opener.behind) {
         return continued_statement(opener, held, scratch, deck);

@@ -17,7 +17,7 @@ returns-in_err-at-clause-came c = λ s H. search (rules, dispatch.prop_none)
 pub returns-in_err-deck-clause-came : goal.returns-in_err-deck-clause-came
 returns-in_err-deck-clause-came c = λ s H.
     let p = err_from_is_err_and c.from_residual-in_err-deck.result c.from_residual-in_err-deck.ensures.1 in
-    rw (p.1, p.2) (dispatch.prop_stopped _ _ _ _ s H _ c.in_default.ensures c.in_ok-at.at (search rules) _ c.in_err-deck.ensures)
+    rw (p.1, p.2) (dispatch.prop_stopped _ _ _ _ s H _ c.in_default.ensures c.in_ok-at.at (search rules) _ c.in_err-deck.ensures.came)
 
 pub returns-clause-came : goal.returns-clause-came
-returns-clause-came c = λ s H. dispatch.prop_read _ _ _ _ s H _ c.in_default.ensures c.in_ok-at.at (search rules) _ _ c.in_ok-deck.ensures
+returns-clause-came c = λ s H. dispatch.prop_read _ _ _ _ s H _ c.in_default.ensures c.in_ok-at.at (search rules) _ _ c.in_ok-deck.ensures.came

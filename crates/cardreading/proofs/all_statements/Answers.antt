@@ -14,11 +14,11 @@ loop-opener-init c =
 pub returns-in_err-next : goal.returns-in_err-next
 returns-in_err-next c =
     let p = err_from_is_err_and c.from_residual.result c.from_residual.ensures.1 in
-    rw (p.1, p.2) (laws.walked_refused _ c.loop-opener.left _ _ c.loop-opener.invariant.walked c.in-Some.opener c.in-Some.ensures.0 _ c.in_err-next.ensures)
+    rw (p.1, p.2) (laws.walked_refused _ c.loop-opener.left _ _ c.loop-opener.invariant.walked c.in-Some.opener c.in-Some.ensures.0 _ c.in_err-next.ensures.came)
 
 pub loop-opener-preserved : goal.loop-opener-preserved
 loop-opener-preserved c =
-    let step = c.in_ok-next.ensures in
+    let step = c.in_ok-next.ensures.came in
     record {
       formed = step.formed;
       small = step.small;
