@@ -10,7 +10,10 @@ use Rattle.logic.specs.Decks.{Equation, Deck, Allowed, Accepted, base}
 use Rattle.logic.specs.Cones.{cone}
 use Rattle.std.specs.Prelude.{Ok, Err}
 use Rattle.decks.specs.declared.Refusal.TheVariants.{Outside}
+use Rattle.decks.specs.declared.Deck.{Deck as Stored}
 use Rattle.decks.specs.Lent.{HoldsEquations}
+use Rattle.decks.specs.Stored.{stored}
+use Rattle.decks.proofs.Stored.{stored_holds}
 use Rattle.cones.specs.Dependencies.{Small, Given}
 use Rattle.cones.specs.Cone.{lowest_outside, sized, cone_read}
 
@@ -47,6 +50,10 @@ module _ (D : Deck) (s : ℕ) where
   -- The variable named is the lowest of the set that is not the deck's.
   pub outside_lowest : s < 2 ^ base.variables → (s ⊆ D.vars → ⊥) → Lowest (without s D.vars) (lowest_outside D s)
   outside_lowest h n = lowest_found (without s D.vars) (lowest_outside D s) refl (λ z. n (without_subset s D.vars z)) (without_lt width s D.vars h)
+
+-- The rows of a deck in memory hold equations that a deck may have.
+pub stored_given : (d : Stored) (D : Deck) → Accepted base D → d ≡ stored D → Given D.equations d.equations.lefts d.equations.ends d.equations.nodes d.equations.count
+stored_given d D a e = accepted_given D a d.equations.lefts d.equations.ends d.equations.nodes d.equations.count (stored_holds D d e)
 
 -- ---- a deck whose equations lie in rows
 

@@ -69,9 +69,9 @@ deck_of s =
 abbrev pub line_of : Outcome Sofar → Result Held Refusal
 line_of o = said_as held_of o
 
--- The deck lent with one part as the lines so far came to, the rest as it was: the variables behind 01, with nothing counted in the arrays, the initial states behind 02, the equations behind 03, the property behind 04.
+-- The deck lent with one part as the lines so far came to, the rest as it was: the variables behind 01, the initial states behind 02, the equations behind 03, the property behind 04.
 abbrev pub with_vars : Stored → Sofar → Stored
-with_vars d s = record d { vars = s.deck.vars; initials = 0; equations = record d.equations { count = 0 }; size = 0 }
+with_vars d s = record d { vars = s.deck.vars }
 
 abbrev pub with_inits : Stored → Sofar → Stored
 with_inits d s = record d { inits = padded base.initials s.deck.inits; initials = length s.deck.inits }
@@ -81,6 +81,10 @@ with_equations d s = record d { equations = stored_equations s.deck.equations }
 
 abbrev pub with_property : Stored → Sofar → Stored
 with_property d s = record d { property = padded base.property_nodes (code s.deck.property); size = nodes s.deck.property }
+
+-- The variables alone, behind an 01 with which the deck begins: nothing is counted in the arrays.
+abbrev pub with_vars_alone : Stored → Sofar → Stored
+with_vars_alone d s = record d { vars = s.deck.vars; initials = 0; equations = record d.equations { count = 0 }; size = 0 }
 
 -- The deck lent behind a line that was not refused, by what the lines came to.
 abbrev pub DeckAfter : (Sofar → Stored) → Outcome Sofar → Stored → Type 0

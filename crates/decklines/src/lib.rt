@@ -9,7 +9,7 @@ ghost use Rattle.decks.specs.Lent.{Hold};
 ghost use Rattle.codes.specs.Steps.{Kept};
 ghost use Rattle.frames.specs.Written.{set_bytes};
 ghost use Rattle.frames.specs.Read.{Sofar, begun, whole_number, whole_expr, set_line, init_line, with_equation, equation_line, property_line};
-ghost use Rattle.decklines.specs.Held.{said_as, written_of, held_of, line_of, with_vars, with_inits, with_equations, with_property, Came, Room};
+ghost use Rattle.decklines.specs.Held.{said_as, written_of, held_of, line_of, with_vars, with_vars_alone, with_inits, with_equations, with_property, Came, Room};
 
 use codes::{Stop, Written};
 use decks::{Deck, Refusal};
@@ -56,12 +56,12 @@ fn set_read(line: &[u8], n: u64) -> Result<u64, Refusal>
     lines::number_at(line, 2, 8).ok_or(Refusal::BadFrame(DECK_TEXT, n))
 }
 
-// 01: the variable set; no initial state, equation or node of the property stands behind it.
-pub fn set_line(line: &[u8], n: u64, deck: &mut Deck) -> Result<Held, Refusal>
+// 01: the variable set alone; no initial state, equation or node of the property stands behind it.
+pub fn set_alone(line: &[u8], n: u64, deck: &mut Deck) -> Result<Held, Refusal>
     ensures rest { deck.new ≡ record deck.old { vars = deck.new.vars; initials = deck.new.initials; equations = record deck.old.equations { count = deck.new.equations.count }; size = deck.new.size } }
     ensures none { OnOk result ((deck.new.initials ≡ 0) × (deck.new.equations.count ≡ 0) × (deck.new.size ≡ 0)) }
     ensures kept { OnErr result (deck.new ≡ deck.old) }
-    ensures came { (s : Sofar) → Came (with_vars deck.old) (set_line n (drop 2 line.now) s.deck) result deck.new }
+    ensures came { (s : Sofar) → Came (with_vars_alone deck.old) (set_line n (drop 2 line.now) s.deck) result deck.new }
 {
     deck.vars = set_read(line, n)?;
     deck.initials = 0;
@@ -71,6 +71,22 @@ pub fn set_line(line: &[u8], n: u64, deck: &mut Deck) -> Result<Held, Refusal>
         due: Due::Init,
         ..nothing()
     })
+}
+
+// 01: the variable set; what else the deck lent holds and counts stays.
+pub fn set_line(line: &[u8], n: u64, deck: &mut Deck) -> Result<Held, Refusal>
+    ensures rest { deck.new ≡ record deck.old { vars = deck.new.vars } }
+    ensures kept { OnErr result (deck.new ≡ deck.old) }
+    ensures came { (s : Sofar) → Came (with_vars deck.old) (set_line n (drop 2 line.now) s.deck) result deck.new }
+{
+    let initials = deck.initials;
+    let count = deck.equations.count;
+    let size = deck.size;
+    let held = set_alone(line, n, deck)?;
+    deck.initials = initials;
+    deck.equations.count = count;
+    deck.size = size;
+    Ok(held)
 }
 
 // The expression that fills line n from a place on; its nodes are kept from a place of the lent row on, as far as the row has room.
@@ -187,4 +203,28 @@ pub fn equation_line(line: &[u8], n: u64, h: Held, deck: &mut Deck) -> Result<He
     deck.equations.ends[i] = held.used as u16;
     deck.equations.count = i + 1;
     Ok(held)
+}
+
+#[cfg(test)]
+mod tests {
+    use super::*;
+    use std::test::Fail;
+
+    // The set of RULES 2's first deck, in a deck that counts already, as no reader lends one.
+    #[test]
+    fn a_set_leaves_what_is_counted(rt: HostRuntime) -> Result<(), Fail> {
+        let mut deck = decks::no_deck();
+        deck.initials = 3;
+        deck.equations.count = 5;
+        deck.size = 7;
+        let held = set_line(b"01000000000000000F", 1, &mut deck)?;
+        assert!(rt; held.due == Due::Init, "what is due");
+        let refused = set_line(b"01000000000000000G", 9, &mut deck).err();
+        assert_eq!(rt; refused, Some(Refusal::BadFrame(1, 9)));
+        assert_eq!(rt; deck.vars, 15);
+        assert_eq!(rt; deck.initials, 3);
+        assert_eq!(rt; deck.equations.count, 5);
+        assert_eq!(rt; deck.size, 7);
+        Ok(())
+    }
 }

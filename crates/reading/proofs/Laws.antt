@@ -32,7 +32,7 @@ use Rattle.lines.proofs.Laws.{count_line_lem, pair_inside, some_below, none_belo
 use Rattle.ends.proofs.Laws.{ended_at, unended_at, ended_last, unended_last}
 use Rattle.decklines.specs.declared.Due.TheVariants.{Nothing}
 use Rattle.decklines.specs.declared.Held.{Held}
-use Rattle.decklines.specs.Held.{due_of, held_of, line_of, deck_of, property_of, size_of, with_vars, with_inits, with_equations, with_property, DeckAfter, Came}
+use Rattle.decklines.specs.Held.{due_of, held_of, line_of, deck_of, property_of, size_of, with_vars, with_vars_alone, with_inits, with_equations, with_property, DeckAfter, Came}
 use Rattle.decklines.proofs.Laws.{said_got, said_refused}
 use Rattle.reading.specs.Within.{Within}
 
@@ -115,7 +115,11 @@ came_whole f (Refused a) r out g c = record { line_is = c.line_is; deck_is = tt 
 
 set_whole : (n : ℕ) (cs : List ℕ) (e : Deck) (d : Stored) → d ≡ deck_of begun → Given (λ t. with_vars d t ≡ deck_of t) (set_line n cs e)
 unfolding set_line
-set_whole n cs e d f = afterwards_given (λ t. with_vars d t ≡ deck_of t) (whole_number 1 n 8 cs) _ (λ v g. ap (λ (x : Stored). record x { vars = v; initials = 0; equations = record x.equations { count = 0 }; size = 0 }) f)
+set_whole n cs e d f = afterwards_given (λ t. with_vars d t ≡ deck_of t) (whole_number 1 n 8 cs) _ (λ v g. ap (λ (x : Stored). record x { vars = v }) f)
+
+set_alone_whole : (n : ℕ) (cs : List ℕ) (e : Deck) (d : Stored) → d ≡ deck_of begun → Given (λ t. with_vars_alone d t ≡ deck_of t) (set_line n cs e)
+unfolding set_line
+set_alone_whole n cs e d f = afterwards_given (λ t. with_vars_alone d t ≡ deck_of t) (whole_number 1 n 8 cs) _ (λ v g. ap (λ (x : Stored). record x { vars = v; initials = 0; equations = record x.equations { count = 0 }; size = 0 }) f)
 
 module _ (n : ℕ) (s : Sofar) (d : Stored) (f : d ≡ deck_of s) where
   abbrev early_deck : Stored
@@ -305,10 +309,16 @@ module _ (line : List ℕ) (n : ℕ) (s : Sofar) where
         vars_are : d.vars ≡ s.deck.vars
         vars_are = ap (λ (x : Stored). x.vars) f
 
+        first_set : k ≡ 1 → s ≡ begun
+        first_set e = w.set_first (due-set s.due k (permits_as true j) e)
+
         pub line_set : k ≡ 1 → ((s : Sofar) → Came (with_vars d) (set_line n (drop 2 line) s.deck) r out) → Came deck_of (deck_line n line s) r out
         line_set e c =
-            let z : s ≡ begun = w.set_first (due-set s.due k (permits_as true j) e) in
-            by_kind (set_line n (drop 2 line) s.deck) (frame-set k n (drop 2 line) s.deck e) (with_vars d) (set_whole n (drop 2 line) s.deck d (f ∙ ap deck_of z)) (c s)
+            by_kind (set_line n (drop 2 line) s.deck) (frame-set k n (drop 2 line) s.deck e) (with_vars d) (set_whole n (drop 2 line) s.deck d (f ∙ ap deck_of (first_set e))) (c s)
+
+        pub line_set_alone : k ≡ 1 → ((s : Sofar) → Came (with_vars_alone d) (set_line n (drop 2 line) s.deck) r out) → Came deck_of (deck_line n line s) r out
+        line_set_alone e c =
+            by_kind (set_line n (drop 2 line) s.deck) (frame-set k n (drop 2 line) s.deck e) (with_vars_alone d) (set_alone_whole n (drop 2 line) s.deck d (f ∙ ap deck_of (first_set e))) (c s)
 
         pub line_init : k ≡ 2 → ((s : Sofar) → h ≡ held_of s → d.vars ≡ s.deck.vars → d.inits ≡ padded 64 s.deck.inits → d.initials ≡ length s.deck.inits → Came (with_inits d) (init_line n (drop 2 line) s.deck) r out) → Came deck_of (deck_line n line s) r out
         line_init e c =

@@ -67,7 +67,7 @@ fn deck_line(line: &[u8], n: u64, h: Held, deck: &mut Deck) -> Result<Held, Refu
         return Err(Refusal::BadFrame(DECK_TEXT, n));
     }
     match kind {
-        SET => decklines::set_line(line, n, deck),
+        SET => decklines::set_alone(line, n, deck),
         INIT => decklines::init_line(line, n, h, deck),
         EQUATION => decklines::equation_line(line, n, h, deck),
         PROPERTY => decklines::property_line(line, n, h, deck),

@@ -308,18 +308,21 @@ blank_mark card e =
     ap continues (kind_by_lem card ∙ ap (λ (x : ℕ). kind_by (is_comment card) (every is_blank (columns 1 field_end card)) (is_blank x || eqb x 48)) e)
     ∙ not_continuing (is_comment card) (every is_blank (columns 1 field_end card))
 
--- The cards behind the first of a text, and the first, where there is one.
-abbrev others : List ℕ → List (List ℕ)
-others text = let next = min (length text) (line_length text + 1) in cards_of (take (length text - next) (drop next text))
+pub blank-continues : (card : List ℕ) (c : ℕ) → c ≡ column 6 card → c ≡ 32 → false ≡ continues (kind_of card)
+blank-continues card c e q = sym (blank_mark card (sym e ∙ q))
 
-first_is : (text : List ℕ) → 0 < length text → cards_of text ≡ take (line_length text) text ∷ others text
+-- What stands behind the first card of a text, and the cards of the text.
+abbrev rest_of : List ℕ → List ℕ
+rest_of text = let next = min (length text) (line_length text + 1) in take (length text - next) (drop next text)
+
+first_is : (text : List ℕ) → 0 < length text → cards_of text ≡ take (line_length text) text ∷ cards_of (rest_of text)
 first_is text h = first-card text (line_length text) (min (length text) (line_length text + 1)) h (omega arith) refl
 
 -- Nor does one continue a statement where the text that it begins has a blank there: it may end before column 6.
-pub blank-continues : (text : List ℕ) (c : ℕ) → c ≡ column 6 text → c ≡ 32 → false ≡ first_continues (cards_of text)
+pub text-blank-continues : (text : List ℕ) (c : ℕ) → c ≡ column 6 text → c ≡ 32 → false ≡ first_continues (cards_of text)
 unfolding ended unended
-blank-continues [] c e q = refl
-blank-continues (x ∷ xs) c e q =
+text-blank-continues [] c e q = refl
+text-blank-continues (x ∷ xs) c e q =
     let text : List ℕ = x ∷ xs in
     let n : ℕ = line_length text in
     sym
@@ -333,6 +336,16 @@ blank-continues (x ∷ xs) c e q =
 
 -- ---- whether the first of the cards that is no comment does
 
+module _ (left card behind : List ℕ) (next : cards_of left ≡ card ∷ cards_of behind) where
+  pub no_comment : (all : Bool) → all ≡ continued (cards_of left) → false ≡ is_comment card → continues (kind_of card) ≡ all
+  no_comment all e n = sym (e ∙ ap continued next ∙ ap (λ (t : Bool). elim t [ true ↦ continued (cards_of behind) | false ↦ continues (kind_of card) ]) (sym n))
+
+  pub comment_behind : (all : Bool) → all ≡ continued (cards_of left) → true ≡ is_comment card → all ≡ continued (cards_of behind)
+  comment_behind all e n = e ∙ ap continued next ∙ ap (λ (t : Bool). elim t [ true ↦ continued (cards_of behind) | false ↦ continues (kind_of card) ]) (sym n)
+
+pub none_continues : (left : List ℕ) (all : Bool) → length left ≡ 0 → all ≡ continued (cards_of left) → false ≡ all
+none_continues left all h e = sym (e ∙ ap continued (none_left left h))
+
 -- A text begins as a comment does exactly where its first card is one.
 begins_comment : (text : List ℕ) → is_comment text ≡ is_comment (take (line_length text) text)
 unfolding line_length
@@ -343,25 +356,20 @@ begins_comment (x ∷ xs) = go (eqb x 10) refl
     go true e = rw (eqb-true x 10 e) refl
     go false e = refl
 
--- The answer from a text on: that of its first card where it begins as no comment does.
-looked_at : (text : List ℕ) (b : Bool) → b ≡ is_comment text → 0 < length text → continued (cards_of text) ≡ elim b [ true ↦ continued (others text) | false ↦ first_continues (cards_of text) ]
-looked_at text b e h =
-    let card : List ℕ = take (line_length text) text in
-    let rest : List (List ℕ) = others text in
-    ap continued (first_is text h)
-    ∙ ap (λ (t : Bool). elim t [ true ↦ continued rest | false ↦ continues (kind_of card) ]) (sym (e ∙ begins_comment text))
-    ∙ ap (λ (t : Bool). elim b [ true ↦ continued rest | false ↦ t ]) (sym (ap first_continues (first_is text h)))
-
-pub no_comment : (text : List ℕ) (all r : Bool) → all ≡ continued (cards_of text) → false ≡ is_comment text → r ≡ first_continues (cards_of text) → r ≡ all
+pub text_no_comment : (text : List ℕ) (all r : Bool) → all ≡ continued (cards_of text) → false ≡ is_comment text → r ≡ first_continues (cards_of text) → r ≡ all
 unfolding ended unended
-no_comment [] all r e n f = f ∙ sym e
-no_comment (x ∷ xs) all r e n f = f ∙ sym (e ∙ looked_at (x ∷ xs) false n (omega arith))
+text_no_comment [] all r e n f = f ∙ sym e
+text_no_comment (x ∷ xs) all r e n f =
+    let text : List ℕ = x ∷ xs in
+    let h : 0 < length text = omega arith in
+    let first = first_is text h in
+    f ∙ ap first_continues first ∙ no_comment text _ (rest_of text) first all e (n ∙ begins_comment text)
 
-pub comment_behind : (text card behind : List ℕ) (all : Bool) → all ≡ continued (cards_of text) → true ≡ is_comment text → cards_of text ≡ card ∷ cards_of behind → length behind < length text → all ≡ continued (cards_of behind)
-comment_behind text card behind all e n next h =
-    let same : take (line_length text) text ∷ others text ≡ card ∷ cards_of behind = sym (first_is text (omega arith)) ∙ next in
-    let rest : others text ≡ cards_of behind = cc in
-    e ∙ looked_at text true n (omega arith) ∙ ap continued rest
+pub text_comment_behind : (text card behind : List ℕ) (all : Bool) → all ≡ continued (cards_of text) → true ≡ is_comment text → cards_of text ≡ card ∷ cards_of behind → length behind < length text → all ≡ continued (cards_of behind)
+text_comment_behind text card behind all e n next h =
+    let same : take (line_length text) text ∷ cards_of (rest_of text) ≡ card ∷ cards_of behind = sym (first_is text (omega arith)) ∙ next in
+    let its : take (line_length text) text ≡ card = cc in
+    comment_behind text card behind next all e (n ∙ begins_comment text ∙ ap is_comment its)
 
 -- A statement that is not continued is laid down.
 laid-before : (n : ℕ) (cs : List (List ℕ)) (s : Statement) → continued cs ≡ false → gathered n cs (Held s) ≡ s ∷ gathered n cs Nothing

@@ -12,7 +12,7 @@ pub property_line-requires : goal.property_line-requires
 property_line-requires c = laws.kind_within c.args.line.now _ c.in-Some.ensures c.in-4.is
 
 pub returns-in-1 : goal.returns-in-1
-returns-in-1 c = λ s w i f. laws.line_set _ _ s _ c.in-Some.ensures _ i c.if-not-permitted.ensures _ _ _ w f c.in-1.is c.set_line.ensures.came
+returns-in-1 c = λ s w i f. laws.line_set_alone _ _ s _ c.in-Some.ensures _ i c.if-not-permitted.ensures _ _ _ w f c.in-1.is c.set_alone.ensures.came
 
 pub returns-in-2 : goal.returns-in-2
 returns-in-2 c = λ s w i f. laws.line_init _ _ s _ c.in-Some.ensures _ i c.if-not-permitted.ensures _ _ _ w f c.in-2.is c.init_line.ensures.came
