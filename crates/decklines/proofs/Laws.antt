@@ -79,35 +79,34 @@ set_said n cs (Some v) e = ap (said_as (λ (x : ℕ). x)) (sym (whole-number-som
 
 -- ---- 01
 
-module _ (n : ℕ) (cs : List ℕ) (s : Sofar) (d : Stored) where
-  set_wrong : (a : Refusal) → Err a ≡ said_as (λ (x : ℕ). x) (whole_number 1 n 8 cs) → set_line n cs s.deck ≡ Refused a
-  unfolding set_line
-  set_wrong a w = simp (said_refused (λ (x : ℕ). x) (whole_number 1 n 8 cs) a w, set_line)
+module _ (n : ℕ) (cs : List ℕ) (s : Sofar) where
+  -- Whatever is said of the deck lent.
+  module _ (f : Sofar → Stored) where
+    set_wrong : (a : Refusal) (out : Stored) → Err a ≡ said_as (λ (x : ℕ). x) (whole_number 1 n 8 cs) → Came f (set_line n cs s.deck) (Err a) out
+    unfolding set_line
+    set_wrong a out w = came_refused f (set_line n cs s.deck) a out (simp (said_refused (λ (x : ℕ). x) (whole_number 1 n 8 cs) a w, set_line))
 
-  -- What 01 comes to.
-  abbrev begun_of : ℕ → Sofar
-  begun_of v = record { due = DueInit; deck = record { vars = v; inits = []; equations = []; property = s.deck.property } }
+    set_right : (v : ℕ) → Ok v ≡ said_as (λ (x : ℕ). x) (whole_number 1 n 8 cs) → (h : Held) → h ≡ held_of begun → Came f (set_line n cs s.deck) (Ok (record { due = Init; used = h.used; last = h.last; covered = h.covered })) (f (record { due = DueInit; deck = record { vars = v; inits = []; equations = []; property = s.deck.property } }))
+    unfolding set_line
+    set_right v w h e =
+        let g = said_got (λ (x : ℕ). x) (whole_number 1 n 8 cs) v w in
+        came_got f (set_line n cs s.deck) (record { due = DueInit; deck = record { vars = v; inits = []; equations = []; property = s.deck.property } }) _ _
+        (simp (g.1, g.2, set_line))
+        (ap (λ (x : Held). Ok (record { due = Init; used = x.used; last = x.last; covered = x.covered })) e)
+        refl
 
-  set_right : (v : ℕ) → Ok v ≡ said_as (λ (x : ℕ). x) (whole_number 1 n 8 cs) → set_line n cs s.deck ≡ Got (begun_of v)
-  unfolding set_line
-  set_right v w = let g = said_got (λ (x : ℕ). x) (whole_number 1 n 8 cs) v w in simp (g.1, g.2, set_line)
+  module _ (d : Stored) where
+    pub set_refused : (a : Refusal) (out : Stored) → Err a ≡ said_as (λ (x : ℕ). x) (whole_number 1 n 8 cs) → Came (with_vars d) (set_line n cs s.deck) (Err a) out
+    set_refused a out w = set_wrong (with_vars d) a out w
 
-  set_says : (v : ℕ) (h : Held) → h ≡ held_of begun → Ok (record { due = Init; used = h.used; last = h.last; covered = h.covered }) ≡ line_of (Got (begun_of v))
-  set_says v h e = ap (λ (x : Held). Ok (record { due = Init; used = x.used; last = x.last; covered = x.covered })) e
+    pub set_fine : (v : ℕ) → Ok v ≡ said_as (λ (x : ℕ). x) (whole_number 1 n 8 cs) → (h : Held) → h ≡ held_of begun → Came (with_vars d) (set_line n cs s.deck) (Ok (record { due = Init; used = h.used; last = h.last; covered = h.covered })) (lent v d.inits d.initials d.equations d.property d.size)
+    set_fine v w h e = set_right (with_vars d) v w h e
 
-  pub set_refused : (a : Refusal) (out : Stored) → Err a ≡ said_as (λ (x : ℕ). x) (whole_number 1 n 8 cs) → Came (with_vars d) (set_line n cs s.deck) (Err a) out
-  set_refused a out w = came_refused (with_vars d) (set_line n cs s.deck) a out (set_wrong a w)
+    pub set_alone_refused : (a : Refusal) (out : Stored) → Err a ≡ said_as (λ (x : ℕ). x) (whole_number 1 n 8 cs) → Came (with_vars_alone d) (set_line n cs s.deck) (Err a) out
+    set_alone_refused a out w = set_wrong (with_vars_alone d) a out w
 
-  pub set_fine : (v : ℕ) → Ok v ≡ said_as (λ (x : ℕ). x) (whole_number 1 n 8 cs) → (h : Held) → h ≡ held_of begun → Came (with_vars d) (set_line n cs s.deck) (Ok (record { due = Init; used = h.used; last = h.last; covered = h.covered })) (lent v d.inits d.initials d.equations d.property d.size)
-  set_fine v w h e = came_got (with_vars d) (set_line n cs s.deck) (begun_of v) _ _ (set_right v w) (set_says v h e) refl
-
-  -- ---- 01 alone
-
-  pub set_alone_refused : (a : Refusal) (out : Stored) → Err a ≡ said_as (λ (x : ℕ). x) (whole_number 1 n 8 cs) → Came (with_vars_alone d) (set_line n cs s.deck) (Err a) out
-  set_alone_refused a out w = came_refused (with_vars_alone d) (set_line n cs s.deck) a out (set_wrong a w)
-
-  pub set_alone_fine : (v : ℕ) → Ok v ≡ said_as (λ (x : ℕ). x) (whole_number 1 n 8 cs) → (h : Held) → h ≡ held_of begun → Came (with_vars_alone d) (set_line n cs s.deck) (Ok (record { due = Init; used = h.used; last = h.last; covered = h.covered })) (lent v d.inits 0 (record d.equations { count = 0 }) d.property 0)
-  set_alone_fine v w h e = came_got (with_vars_alone d) (set_line n cs s.deck) (begun_of v) _ _ (set_right v w) (set_says v h e) refl
+    pub set_alone_fine : (v : ℕ) → Ok v ≡ said_as (λ (x : ℕ). x) (whole_number 1 n 8 cs) → (h : Held) → h ≡ held_of begun → Came (with_vars_alone d) (set_line n cs s.deck) (Ok (record { due = Init; used = h.used; last = h.last; covered = h.covered })) (lent v d.inits 0 (record d.equations { count = 0 }) d.property 0)
+    set_alone_fine v w h e = set_right (with_vars_alone d) v w h e
 
 -- ---- 02
 

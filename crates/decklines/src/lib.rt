@@ -210,7 +210,7 @@ mod tests {
     use super::*;
     use std::test::Fail;
 
-    // The set of RULES 2's first deck, in a deck that counts already, as no reader lends one.
+    // The set of RULES 2.3's deck, in a deck that counts already, as no reader lends one.
     #[test]
     fn a_set_leaves_what_is_counted(rt: HostRuntime) -> Result<(), Fail> {
         let mut deck = decks::no_deck();

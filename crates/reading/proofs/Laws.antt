@@ -309,16 +309,16 @@ module _ (line : List ℕ) (n : ℕ) (s : Sofar) where
         vars_are : d.vars ≡ s.deck.vars
         vars_are = ap (λ (x : Stored). x.vars) f
 
-        first_set : k ≡ 1 → s ≡ begun
-        first_set e = w.set_first (due-set s.due k (permits_as true j) e)
+        by_set : (o : Sofar → Stored) → (d ≡ deck_of begun → Given (λ t. o t ≡ deck_of t) (set_line n (drop 2 line) s.deck)) → k ≡ 1 → ((s : Sofar) → Came o (set_line n (drop 2 line) s.deck) r out) → Came deck_of (deck_line n line s) r out
+        by_set o g e c =
+            let z : s ≡ begun = w.set_first (due-set s.due k (permits_as true j) e) in
+            by_kind (set_line n (drop 2 line) s.deck) (frame-set k n (drop 2 line) s.deck e) o (g (f ∙ ap deck_of z)) (c s)
 
         pub line_set : k ≡ 1 → ((s : Sofar) → Came (with_vars d) (set_line n (drop 2 line) s.deck) r out) → Came deck_of (deck_line n line s) r out
-        line_set e c =
-            by_kind (set_line n (drop 2 line) s.deck) (frame-set k n (drop 2 line) s.deck e) (with_vars d) (set_whole n (drop 2 line) s.deck d (f ∙ ap deck_of (first_set e))) (c s)
+        line_set = by_set (with_vars d) (set_whole n (drop 2 line) s.deck d)
 
         pub line_set_alone : k ≡ 1 → ((s : Sofar) → Came (with_vars_alone d) (set_line n (drop 2 line) s.deck) r out) → Came deck_of (deck_line n line s) r out
-        line_set_alone e c =
-            by_kind (set_line n (drop 2 line) s.deck) (frame-set k n (drop 2 line) s.deck e) (with_vars_alone d) (set_alone_whole n (drop 2 line) s.deck d (f ∙ ap deck_of (first_set e))) (c s)
+        line_set_alone = by_set (with_vars_alone d) (set_alone_whole n (drop 2 line) s.deck d)
 
         pub line_init : k ≡ 2 → ((s : Sofar) → h ≡ held_of s → d.vars ≡ s.deck.vars → d.inits ≡ padded 64 s.deck.inits → d.initials ≡ length s.deck.inits → Came (with_inits d) (init_line n (drop 2 line) s.deck) r out) → Came deck_of (deck_line n line s) r out
         line_init e c =

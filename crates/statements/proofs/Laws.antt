@@ -318,30 +318,28 @@ rest_of text = let next = min (length text) (line_length text + 1) in take (leng
 first_is : (text : List ℕ) → 0 < length text → cards_of text ≡ take (line_length text) text ∷ cards_of (rest_of text)
 first_is text h = first-card text (line_length text) (min (length text) (line_length text + 1)) h (omega arith) refl
 
--- Nor does one continue a statement where the text that it begins has a blank there: it may end before column 6.
-pub text-blank-continues : (text : List ℕ) (c : ℕ) → c ≡ column 6 text → c ≡ 32 → false ≡ first_continues (cards_of text)
+-- Nor does the first card of a text that has a blank there, where the card may end before column 6.
+pub text_blank-continues : (text : List ℕ) (c : ℕ) → c ≡ column 6 text → c ≡ 32 → false ≡ first_continues (cards_of text)
 unfolding ended unended
-text-blank-continues [] c e q = refl
-text-blank-continues (x ∷ xs) c e q =
+text_blank-continues [] c e q = refl
+text_blank-continues (x ∷ xs) c e q =
     let text : List ℕ = x ∷ xs in
     let n : ℕ = line_length text in
-    sym
-    (ap first_continues (first_is text (omega arith))
-    ∙ blank_mark
-    (take n text)
-    (by_cases
-    (dec_lt 5 n)
-    (λ l. get_or-take n text 5 blank l ∙ sym e ∙ q)
-    (λ m. get_or-eq_default (take n text) blank {n = 5} (omega (arith, length-take n text)))))
+    let there : column 6 (take n text) ≡ 32 =
+    by_cases (dec_lt 5 n) (λ l. get_or-take n text 5 blank l ∙ sym e ∙ q) (λ m. get_or-eq_default (take n text) blank {n = 5} (omega (arith, length-take n text))) in
+    blank-continues (take n text) _ refl there ∙ sym (ap first_continues (first_is text (omega arith)))
 
 -- ---- whether the first of the cards that is no comment does
 
 module _ (left card behind : List ℕ) (next : cards_of left ≡ card ∷ cards_of behind) where
+  looked_at : (b : Bool) → b ≡ is_comment card → continued (cards_of left) ≡ elim b [ true ↦ continued (cards_of behind) | false ↦ continues (kind_of card) ]
+  looked_at b n = ap continued next ∙ ap (λ (t : Bool). elim t [ true ↦ continued (cards_of behind) | false ↦ continues (kind_of card) ]) (sym n)
+
   pub no_comment : (all : Bool) → all ≡ continued (cards_of left) → false ≡ is_comment card → continues (kind_of card) ≡ all
-  no_comment all e n = sym (e ∙ ap continued next ∙ ap (λ (t : Bool). elim t [ true ↦ continued (cards_of behind) | false ↦ continues (kind_of card) ]) (sym n))
+  no_comment all e n = sym (e ∙ looked_at false n)
 
   pub comment_behind : (all : Bool) → all ≡ continued (cards_of left) → true ≡ is_comment card → all ≡ continued (cards_of behind)
-  comment_behind all e n = e ∙ ap continued next ∙ ap (λ (t : Bool). elim t [ true ↦ continued (cards_of behind) | false ↦ continues (kind_of card) ]) (sym n)
+  comment_behind all e n = e ∙ looked_at true n
 
 pub none_continues : (left : List ℕ) (all : Bool) → length left ≡ 0 → all ≡ continued (cards_of left) → false ≡ all
 none_continues left all h e = sym (e ∙ ap continued (none_left left h))
